@@ -5,8 +5,7 @@ use Rattle.std.proofs.lemmas.List.{drop_all}
 use Rattle.spl_tree.specs.declared.body.Statement.{Statement}
 use Rattle.spl_tree.specs.declared.code.Code.{Code}
 use Rattle.spl_tree.specs.declared.code.Slot.{Slot}
-use Rattle.spl_tree.specs.Grammar.{Expr}
-use Rattle.spl_tree.specs.StatementGrammar.{Stmt}
+use Rattle.spl_tree.specs.Trees.{Expr, Stmt}
 use Rattle.language_model.specs.declared.scope.Scope.{Scope}
 use Rattle.language_model.specs.BodyTyping.{Setting, alone, arms_typing, condition_typing, part_stated, row_typing, stated}
 use Rattle.language_model.specs.BodyTypingLaws.{arms_stated, row_stated}

@@ -3,7 +3,7 @@ use Rattle.std.specs.Prelude.{◌≡◌, ℕ, Bool, List, [], ◌∷◌, ◌++�
 use Rattle.std.proofs.Common.{refl, ap, ◌∙◌, arith, ◌≤◌, ◌+◌}
 use Rattle.std.proofs.lemmas.List.{map-append}
 use Rattle.spl_tree.specs.declared.expression.Placed.{Placed}
-use Rattle.spl_tree.specs.StatementGrammar.{Stmt}
+use Rattle.spl_tree.specs.Trees.{Stmt}
 use Rattle.language_model.specs.BodyTyping.{last_returns, returns}
 use Rattle.language_model.specs.BodyTypingLaws.{kind_returns}
 use Rattle.spl_value.proofs.Lists.{total}

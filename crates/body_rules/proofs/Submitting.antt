@@ -8,7 +8,7 @@ use Rattle.spl_value.specs.declared.types.Named.{Named}
 use Rattle.spl_value.specs.declared.types.SplType.{SplType}
 use Rattle.spl_tree.specs.declared.body.Statement.{Statement}
 use Rattle.spl_tree.specs.declared.expression.Placed.{Placed}
-use Rattle.spl_tree.specs.Grammar.{Expr}
+use Rattle.spl_tree.specs.Trees.{Expr}
 use Rattle.language_model.specs.declared.scope.Port.{Port}
 use Rattle.language_model.specs.declared.scope.Scope.{Scope}
 use Rattle.language_model.specs.BodyTyping.{submit_typing, submitted, submitted_on, submitted_to}

@@ -3,7 +3,7 @@ use Rattle.std.specs.Prelude.{Bool, true, List, Option, Ok}
 use Rattle.spl_tree.specs.declared.body.Statement.{Statement}
 use Rattle.spl_tree.specs.declared.body.Statement.TheVariants as T
 use Rattle.spl_tree.specs.declared.expression.Placed.{Placed}
-use Rattle.spl_tree.specs.Grammar.{Expr}
+use Rattle.spl_tree.specs.Trees.{Expr}
 use Rattle.language_model.specs.declared.scope.Scope.{Scope}
 use Rattle.language_model.specs.BodyTyping.{Setting, Stated, alone, arms_typing, condition_typing, other_typing, row_typing}
 use Rattle.language_model.specs.Typing.{Found, after}

@@ -13,7 +13,7 @@ use Rattle.spl_tree.specs.declared.unit.Composite.{Composite}
 use Rattle.spl_tree.specs.declared.unit.Definition.{Definition}
 use Rattle.spl_tree.specs.declared.unit.Invocation.{Invocation}
 use Rattle.spl_tree.specs.declared.unit.OutputAssignments.{OutputAssignments}
-use Rattle.spl_tree.specs.Grammar.{placed}
+use Rattle.spl_tree.specs.Trees.{placed}
 use Rattle.language_model.specs.declared.checked.CheckedClauses.{CheckedClauses}
 use Rattle.language_model.specs.declared.checked.CheckedClauses.TheVariants as A
 use Rattle.language_model.specs.declared.kinds.Role.TheVariants as R

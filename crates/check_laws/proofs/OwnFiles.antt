@@ -9,7 +9,7 @@ use Rattle.spl_tree.specs.declared.graph.Graph.{Graph}
 use Rattle.spl_tree.specs.declared.graph.Op.{Op}
 use Rattle.spl_tree.specs.declared.unit.Composite.{Composite}
 use Rattle.spl_tree.specs.declared.unit.Definition.{Definition}
-use Rattle.spl_tree.specs.Grammar.{placed}
+use Rattle.spl_tree.specs.Trees.{placed}
 use Rattle.language_model.specs.declared.checked.CheckedClauses.{CheckedClauses}
 use Rattle.language_model.specs.declared.checked.CheckedClauses.TheVariants as A
 use Rattle.language_model.specs.CheckedGraph.{CheckedGraph}

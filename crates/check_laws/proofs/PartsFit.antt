@@ -14,7 +14,7 @@ use Rattle.spl_tree.specs.declared.graph.OpKind.TheVariants as O
 use Rattle.spl_tree.specs.declared.unit.Clauses.{Clauses}
 use Rattle.spl_tree.specs.declared.unit.OutputAssignments.{OutputAssignments}
 use Rattle.spl_tree.specs.declared.unit.OutputStream.{OutputStream}
-use Rattle.spl_tree.specs.Grammar.{Expr}
+use Rattle.spl_tree.specs.Trees.{Expr}
 use Rattle.language_model.specs.declared.checked.Given.{Given}
 use Rattle.language_model.specs.declared.checked.ParameterValue.{ParameterValue}
 use Rattle.language_model.specs.declared.checked.CheckedClauses.{CheckedClauses}

@@ -30,7 +30,7 @@ use Rattle.spl_tree.specs.declared.expression.Placed.{Placed}
 use Rattle.spl_tree.specs.declared.expression.PrefixOperator.{PrefixOperator}
 use Rattle.spl_tree.specs.declared.expression.PrefixOperator.TheVariants as P
 use Rattle.spl_tree.specs.declared.statement.Declaration.{Declaration}
-use Rattle.spl_tree.specs.Grammar.{Expr}
+use Rattle.spl_tree.specs.Trees.{Expr}
 use Rattle.spl_tree.proofs.Induction.{OfExpr, OfEntry, OfField, ExprSteps, expr_ind}
 use Rattle.language_model.specs.declared.checked.StateVariable.{StateVariable}
 use Rattle.language_model.specs.declared.scope.CheckError.TheVariants as R

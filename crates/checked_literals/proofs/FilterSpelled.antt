@@ -13,13 +13,14 @@ use Rattle.spl_tree.specs.declared.token.Token.{Token}
 use Rattle.spl_tree.specs.declared.token.TokenKind.{TokenKind}
 use Rattle.spl_tree.specs.declared.token.TokenKind.TheVariants as T
 use Rattle.spl_tree.specs.declared.unit.Parameter.{Parameter}
-use Rattle.spl_tree.specs.Grammar.{At, Expr, Primary, Spells, placed, plain, tighter, unary, operand, primary, name, literal, number, text, binary, first_item}
+use Rattle.spl_tree.specs.Trees.{Expr, placed}
+use Rattle.spl_tree.specs.steps.Grammar.{At, Primary, Spells, plain, tighter, unary, operand, primary, name, literal, number, text, binary, first_item}
 use Rattle.spl_tree.proofs.UnitSpellings.{named}
 use Rattle.spl_tree.specs.Operators.{binary_of}
-use Rattle.spl_tree.specs.Phrases as R
-use Rattle.spl_tree.specs.StatementGrammar as Q
-use Rattle.spl_tree.specs.TypeGrammar as Y
-use Rattle.spl_tree.specs.UnitGrammar as U
+use Rattle.spl_tree.specs.steps.Phrases as R
+use Rattle.spl_tree.specs.steps.StatementGrammar as Q
+use Rattle.spl_tree.specs.steps.TypeGrammar as Y
+use Rattle.spl_tree.specs.steps.UnitGrammar as U
 use Rattle.checked_literals.specs.examples.Filtered.{condition, filter, filtered, sink, source}
 use Rattle.checked_literals.specs.examples.Shapes.{attribute_at, file_parameters, int64_at, output_of, parameter_at, port_at, with_parameters}
 

@@ -3,7 +3,7 @@ ghost use Rattle.std.specs.Prelude.{◌≡◌, [], ◌∷◌, Some, None, Ok, Is
 ghost use Rattle.spl_tree.specs.declared.graph.OpKind.TheVariants as O;
 ghost use Rattle.language_model.specs.declared.scope.CheckError.TheVariants as E;
 ghost use Rattle.spl_tree.specs.Tokens.{tokens};
-ghost use Rattle.spl_tree.specs.UnitGrammar.{SpellsUnit};
+ghost use Rattle.spl_tree.specs.Units.{SpellsProgram};
 ghost use Rattle.language_model.specs.Checking.{checked};
 ghost use Rattle.language_model.specs.Flat.{IsFlat};
 ghost use Rattle.checked_literals.specs.examples.Composed.{composed, composed_graph, composed_checked};
@@ -17,7 +17,7 @@ ghost use Rattle.checked_literals.specs.examples.Summed.{summed, summed_graph, s
 /// A source, a filter and a sink: the tree that their text spells, its graph, and the types and the
 /// clauses of each operator.
 pub fn filter_is_checked()
-    ensures spells { IsOkAnd (tokens filtered_text) (λ ts. SpellsUnit filtered ts.list) }
+    ensures spells { IsOkAnd (tokens filtered_text) (λ ts. SpellsProgram filtered ts.list) }
     ensures flat { IsFlat filtered [] (Ok filtered_graph) }
     ensures checked { checked filtered filtered_graph ≡ Ok filtered_checked }
 {}

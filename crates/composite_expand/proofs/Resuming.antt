@@ -5,7 +5,7 @@ use Rattle.std.specs.Prelude.{true, if◌then◌else◌}
 use Rattle.spl_tree.specs.declared.unit.Composite.{Composite}
 use Rattle.spl_tree.specs.declared.unit.Definition.{Definition}
 use Rattle.spl_tree.specs.declared.unit.Invocation.{Invocation}
-use Rattle.spl_tree.specs.Grammar.{placed}
+use Rattle.spl_tree.specs.Trees.{placed}
 use Rattle.language_model.specs.declared.expansion.ExpansionRefusal.{ExpansionRefusal}
 use Rattle.language_model.specs.declared.expansion.ExpansionRefusal.TheVariants as R
 use Rattle.language_model.specs.Expansion.{Made, Expanded, Inlined, Opened, Expands, after, expanded, expanded_graph, expanded_invocation, expanded_target, if_grown, if_declared, with_expansion, opened_in, inlined}

@@ -1,6 +1,6 @@
 //! The graph of a unit.
 ghost use Rattle.std.specs.Prelude.{◌≡◌, map, IfOk};
-ghost use Rattle.spl_tree.specs.Grammar.{placed};
+ghost use Rattle.spl_tree.specs.Trees.{placed};
 ghost use Rattle.language_model.specs.Flat.{flat_from};
 ghost use Rattle.language_model.specs.Scopes.{At};
 ghost use Rattle.spl_tree.specs.declared.unit.Composite.{Composite};

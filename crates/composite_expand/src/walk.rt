@@ -1,6 +1,6 @@
 //! The expansion of the main composite, invocation by invocation.
 ghost use Rattle.std.specs.Prelude.{◌≡◌, ◌++◌, ◌∷◌, [], ◌<◌, ◌≤◌, ◌^◌, ℕ, List, min, sum_by, suc, true, false, codes, IfOk, OnOk, MatchResult, None, Some, take, length, reverse, slice_get, IsTrue, ◌↔◌};
-ghost use Rattle.spl_tree.specs.Grammar.{placed};
+ghost use Rattle.spl_tree.specs.Trees.{placed};
 ghost use Rattle.spl_tree.specs.declared.unit.Composite.{Composite};
 ghost use Rattle.spl_tree.specs.declared.unit.Definition.{Definition};
 ghost use Rattle.spl_tree.specs.declared.unit.Invocation.{Invocation};

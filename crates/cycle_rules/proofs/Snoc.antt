@@ -4,7 +4,7 @@ use Rattle.std.specs.Prelude.{slice_get, filter_map}
 use Rattle.std.proofs.lemmas.List.{map-append}
 use Rattle.spl_tree.specs.declared.expression.Placed.{Placed}
 use Rattle.std.specs.Borrow.{Bor}
-use Rattle.spl_tree.specs.Grammar.{placed}
+use Rattle.spl_tree.specs.Trees.{placed}
 use Rattle.spl_tree.specs.declared.unit.Definition.{Definition}
 use Rattle.language_model.specs.Mentions.{calls, called_at}
 use Rattle.language_model.specs.Composites.{as_function, as_composite}

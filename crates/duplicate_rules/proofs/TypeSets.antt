@@ -11,7 +11,7 @@ use Rattle.spl_tree.specs.declared.shape.TypeKind.TheOpen as Y
 use Rattle.spl_tree.specs.declared.shape.TypeKind.TheOpen.{TypeKind-F}
 use Rattle.spl_tree.specs.declared.shape.TypeKind.TheViews.{out-TypeKind}
 use Rattle.spl_tree.specs.declared.shape.TypeKind.TheFolds.{fold-TypeKind, fold_out-TypeKind, map-TypeKind}
-use Rattle.spl_tree.specs.TypeGrammar.{TypeExpr}
+use Rattle.spl_tree.specs.Trees.{TypeExpr}
 use Rattle.language_model.specs.Declarations.{Sets, level_type, type_sets, attribute_sets}
 
 abbrev sets : TypeKind → Sets

@@ -8,7 +8,7 @@ use Rattle.std.proofs.Math.Decide.{ℕ_discrete}
 use Rattle.std.proofs.lemmas.Option.{same_Some, slice_get-get_or, slice_get-map, slice_get_within}
 use Rattle.spl_value.proofs.Decided.{both_decided, either_decided}
 use Rattle.spl_tree.specs.declared.expression.Placed.{Placed}
-use Rattle.spl_tree.specs.Grammar.{placed}
+use Rattle.spl_tree.specs.Trees.{placed}
 use Rattle.graph_laws.proofs.OneFlat.{there}
 use Rattle.language_model.specs.Recursion.{Caller, Calls, call_among, calls_among, IsCall, Leads, directly, through, IsBack, IsFirstIn, HasNoRecursion}
 

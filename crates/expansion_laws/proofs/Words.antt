@@ -25,17 +25,18 @@ use Rattle.spl_tree.specs.declared.unit.Definition.TheVariants as D
 use Rattle.spl_tree.specs.declared.unit.Invocation.{Invocation}
 use Rattle.spl_tree.specs.declared.unit.OutputStream.{OutputStream}
 use Rattle.spl_tree.specs.Bytes.{is_letter, is_quote}
-use Rattle.spl_tree.specs.Grammar.{placed}
+use Rattle.spl_tree.specs.Trees.{placed}
 use Rattle.spl_tree.specs.Laws.{Cut, done, gap, token}
-use Rattle.spl_tree.specs.Phrases as P
-use Rattle.spl_tree.specs.Phrases.{Row, Separated}
+use Rattle.spl_tree.specs.steps.Phrases as P
+use Rattle.spl_tree.specs.steps.Phrases.{Row, Separated}
 use Rattle.spl_tree.specs.Tokens.{Refusal, is_word, word_kind, digits, suffix, suffix_kind, number_kind, unescaped, between_quotes, text_kind, symbol_kind, ends_text, is_formed, kind_of}
-use Rattle.spl_tree.specs.UnitGrammar as U
-use Rattle.spl_tree.specs.UnitGrammar.{SpellsAlias, SpellsComposite, SpellsDefinition, SpellsHead, SpellsInvocation, SpellsOutputStream, SpellsUnit}
+use Rattle.spl_tree.specs.steps.UnitGrammar as U
+use Rattle.spl_tree.specs.steps.UnitGrammar.{SpellsAlias, SpellsComposite, SpellsDefinition, SpellsHead, SpellsInvocation, SpellsOutputStream, SpellsUnit}
 use Rattle.spl_tree.specs.Words.{keyword_of, symbol_of}
 use Rattle.spl_tree.proofs.CutLaws.{cut_law}
 use Rattle.language_model.specs.Composites.{composites}
 use Rattle.language_model.specs.DollarTargets.{composite_of, invocation_at}
+use Rattle.grammar_laws.proofs.FromLines.{unit_from_lines}
 use Rattle.expansion_laws.specs.Bodies.{IsName, by_alias, by_stream, without, Lies, in_main, in_body}
 use Rattle.expansion_laws.specs.Names.{IsDotted, word, dotted, DottedLaw}
 use Rattle.expansion_laws.proofs.Ways.{name_law}
@@ -218,7 +219,7 @@ module _ (unit : List Definition) (all : AllByRecursion IsDefinitionWorded unit)
 
 pub dotted_law : DottedLaw
 dotted_law bytes ts unit names g lexed spells flat n op at =
-    let all = unit_worded unit ts.list spells (cut_words 0 bytes ts.list (cut_law bytes ts lexed).0) in
+    let all = unit_worded unit ts.list (unit_from_lines unit ts.list spells) (cut_words 0 bytes ts.list (cut_law bytes ts lexed).0) in
     let named = name_law unit names g flat n op at in
     let own = named.3 in
     let is_own = name_is_word unit all g own.invocation own.name (invocation_is_worded unit all g op.site own.invocation own.there) own.own in

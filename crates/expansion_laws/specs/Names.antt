@@ -5,7 +5,7 @@ use Rattle.spl_tree.specs.declared.graph.Op.{Op}
 use Rattle.spl_tree.specs.declared.token.Tokens.{Tokens}
 use Rattle.spl_tree.specs.declared.unit.Definition.{Definition}
 use Rattle.spl_tree.specs.Tokens.{is_word, tokens}
-use Rattle.spl_tree.specs.UnitGrammar.{SpellsUnit}
+use Rattle.spl_tree.specs.Units.{SpellsProgram}
 use Rattle.language_model.specs.Flat.{IsFlat}
 
 pub data IsDotted : List ℕ → Type 0 where
@@ -14,5 +14,5 @@ pub data IsDotted : List ℕ → Type 0 where
 
 -- so are the names in the graph of a unit that the tokens of bytes spell
 abbrev pub DottedLaw : Type 0
-DottedLaw = (bytes : List ℕ) (ts : Tokens) (unit : List Definition) (names : List (List ℕ)) (g : Graph) → tokens bytes ≡ Ok ts → SpellsUnit unit ts.list → IsFlat unit names (Ok g)
+DottedLaw = (bytes : List ℕ) (ts : Tokens) (unit : List Definition) (names : List (List ℕ)) (g : Graph) → tokens bytes ≡ Ok ts → SpellsProgram unit ts.list → IsFlat unit names (Ok g)
     → (n : ℕ) (op : Op) → slice_get g.ops n ≡ Some op → IsDotted op.name

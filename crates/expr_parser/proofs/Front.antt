@@ -2,7 +2,7 @@
 use Rattle.std.proofs.Common.{◌≡◌, false, List, [], ◌∷◌, ◌++◌, Err, sym, subst}
 use Rattle.spl_tree.specs.declared.symbol.Symbol.TheVariants as K
 use Rattle.spl_tree.specs.declared.token.Token.{Token}
-use Rattle.spl_tree.specs.Grammar.{Expr, Prefix}
+use Rattle.spl_tree.specs.Trees.{Expr, Prefix}
 use Rattle.expr_parser.specs.Rules.{call, Answer, Refused, RunsTo, Reads}
 use Rattle.expr_parser.specs.RuleLaws.{begins_with, line, runs_stop, runs_take, runs_skip, runs_last}
 use Rattle.expr_parser.specs.Lines.{Prefixed, Primary, Group, rule, is, is_prefix, prefix_token, is_target, cast_token, operand_rule}

@@ -11,7 +11,7 @@ use Rattle.spl_tree.specs.declared.expression.Field.{Field}
 use Rattle.spl_tree.specs.declared.expression.Step.{Step}
 use Rattle.spl_tree.specs.declared.expression.Step.TheVariants as N
 use Rattle.spl_tree.specs.declared.expression.BinaryOperator.{BinaryOperator}
-use Rattle.spl_tree.specs.Grammar.{Expr, Prefix, placed}
+use Rattle.spl_tree.specs.Trees.{Expr, Prefix, placed}
 use Rattle.expr_parser.specs.declared.stop.Stop.{Stop}
 use Rattle.expr_parser.specs.declared.stop.Stop.TheVariants as S
 use Rattle.expr_parser.specs.Rules.{done, stop, look, call, Answer, Took, Refused, RunsTo, Reads}

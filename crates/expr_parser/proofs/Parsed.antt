@@ -4,17 +4,18 @@ use Rattle.std.proofs.Math.Seq.{drop-append_seam}
 use Rattle.std.proofs.lemmas.List.{take_rest, drop-drop}
 use Rattle.spl_tree.specs.declared.token.Token.{Token}
 use Rattle.spl_tree.specs.declared.token.Tokens.{Tokens}
-use Rattle.spl_tree.specs.Grammar.{Expr, Spells}
+use Rattle.spl_tree.specs.Trees.{Expr}
+use Rattle.spl_tree.specs.steps.Grammar.{Spells}
 use Rattle.spl_tree.specs.Weights.{too_deep_from}
 use Rattle.expr_parser.specs.Rules.{Took, Refused, Reads}
 use Rattle.expr_parser.specs.Lines.{Whole, rule}
 use Rattle.spl_tree.specs.Fronts.{IsPhrase, IsUnexpected}
-use Rattle.expr_parser.proofs.Expressions.{exact_took, exact_refused}
+use Rattle.expr_parser.proofs.Expressions.{exact_refused, took_expression, refused_expression}
 use Rattle.expr_parser.specs.declared.stop.Stop.{Stop}
 use Rattle.expr_parser.specs.declared.stop.Stop.TheVariants as S
 use Rattle.expr_parser.specs.Gives.{Gives, Begun}
 use Rattle.spl_tree.specs.Units.{place_of}
-use Rattle.expr_parser.specs.Parses.{IsParsed, IsUnexpectedAt}
+use Rattle.expr_parser.specs.Parses.{SpellsExpr, IsParsed, IsUnexpectedAt}
 
 -- what comes after a front of the tokens from a place on
 record Ends (list : List Token) (from : ℕ) (rest : List Token) : Type 0 where
@@ -35,8 +36,8 @@ module _ (tokens : Tokens) (from : ℕ) (list rest : List Token) (same : list �
   given = take_rest list from ∙ ap (drop from) same
 
   module _ {e : Expr} (reads : Reads rule Whole (take (length list - from) (drop from list)) (Took e rest)) where
-    phrase : IsPhrase Spells (drop from tokens.list) e rest
-    phrase = subst (λ us. IsPhrase Spells us e rest) given (exact_took reads)
+    phrase : IsPhrase SpellsExpr (drop from tokens.list) e rest
+    phrase = subst (λ us. IsPhrase SpellsExpr us e rest) given (took_expression reads)
 
     took_ends : Ends tokens.list from rest
     took_ends = let p = phrase in ends tokens.list from p.front rest le p.longest.splits
@@ -52,12 +53,12 @@ module _ (tokens : Tokens) (from : ℕ) (list rest : List Token) (same : list �
           shallow = shallow;
           from_there = omega arith;
           within = omega arith;
-          phrase = subst (λ us. IsPhrase Spells (drop from tokens.list) e us) (took_ends.is ∙ ap (λ n. drop (n - length rest) tokens.list) (sym n)) phrase;
+          phrase = subst (λ us. IsPhrase SpellsExpr (drop from tokens.list) e us) (took_ends.is ∙ ap (λ n. drop (n - length rest) tokens.list) (sym n)) phrase;
         }
 
   module _ (reads : Reads rule Whole (take (length list - from) (drop from list)) (Refused rest)) where
-    unexpected : IsUnexpected Spells (drop from tokens.list) rest
-    unexpected = subst (λ us. IsUnexpected Spells us rest) given (exact_refused reads)
+    unexpected : IsUnexpected SpellsExpr (drop from tokens.list) rest
+    unexpected = subst (λ us. IsUnexpected SpellsExpr us rest) given (refused_expression reads)
 
     refused_ends : Ends tokens.list from rest
     refused_ends = let u = unexpected in ends tokens.list from u.front rest le u.longest.splits
@@ -75,7 +76,7 @@ module _ (tokens : Tokens) (from : ℕ) (list rest : List Token) (same : list �
           from_there = omega arith;
           within = omega arith;
           place = place;
-          unexpected = subst (λ us. IsUnexpected Spells (drop from tokens.list) us) (refused_ends.is ∙ ap (λ n. drop (n - length rest) tokens.list) (sym n)) unexpected;
+          unexpected = subst (λ us. IsUnexpected SpellsExpr (drop from tokens.list) us) (refused_ends.is ∙ ap (λ n. drop (n - length rest) tokens.list) (sym n)) unexpected;
         }
 
 -- a refusal of an expression

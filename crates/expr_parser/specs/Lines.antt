@@ -18,7 +18,7 @@ use Rattle.spl_tree.specs.declared.expression.CastTarget.TheVariants as C
 use Rattle.spl_tree.specs.declared.expression.BinaryOperator.{BinaryOperator}
 use Rattle.spl_tree.specs.declared.expression.BinaryOperator.TheVariants as B
 use Rattle.spl_tree.specs.Operators.{binary_of, level, prefix_of, target_of, is_symbol}
-use Rattle.spl_tree.specs.Grammar.{Expr, Prefix, placed}
+use Rattle.spl_tree.specs.Trees.{Expr, Prefix, placed}
 use Rattle.expr_parser.specs.Rules.{Rule, done, stop, look, call}
 
 pub data Line : Type 0 where

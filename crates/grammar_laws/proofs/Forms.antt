@@ -12,15 +12,16 @@ use Rattle.spl_tree.specs.declared.unit.Composite.{Composite}
 use Rattle.spl_tree.specs.declared.unit.Definition.{Definition}
 use Rattle.spl_tree.specs.declared.unit.Definition.TheVariants as D
 use Rattle.spl_tree.specs.declared.unit.FunctionDefinition.{FunctionDefinition}
-use Rattle.spl_tree.specs.Grammar.{Expr}
-use Rattle.spl_tree.specs.StatementGrammar as G
-use Rattle.spl_tree.specs.StatementGrammar.{Stmt, SpellsPlace, SpellsCall, SpellsDeclaration, SpellsMutable, SpellsStmt, SpellsArms}
-use Rattle.spl_tree.specs.TypeGrammar as Q
-use Rattle.spl_tree.specs.TypeGrammar.{TypeExpr, SpellsType}
-use Rattle.spl_tree.specs.UnitGrammar as U
-use Rattle.spl_tree.specs.UnitGrammar.{SpellsComposite, SpellsDefinition, SpellsFunction, SpellsPublic, SpellsResultType}
+use Rattle.spl_tree.specs.Trees.{Expr, Stmt, TypeExpr}
+use Rattle.spl_tree.specs.steps.StatementGrammar as G
+use Rattle.spl_tree.specs.steps.StatementGrammar.{SpellsPlace, SpellsCall, SpellsDeclaration, SpellsMutable, SpellsStmt, SpellsArms}
+use Rattle.spl_tree.specs.steps.TypeGrammar as Q
+use Rattle.spl_tree.specs.steps.TypeGrammar.{SpellsType}
+use Rattle.spl_tree.specs.steps.UnitGrammar as U
+use Rattle.spl_tree.specs.steps.UnitGrammar.{SpellsComposite, SpellsDefinition, SpellsFunction, SpellsPublic, SpellsResultType}
 use Rattle.grammar_laws.specs.Forms as F
 use Rattle.grammar_laws.specs.Forms.{IsTypeForm, TypeFormLaw, BeginsType, IsForm, FormLaw, IsDefinitionForm, DefinitionFormLaw}
+use Rattle.grammar_laws.proofs.FromLines.{meant}
 
 -- the tokens begin with one of which this holds
 record Begins (P : TokenKind → Type 0) (ts : List Token) : Type 0 where
@@ -63,7 +64,7 @@ begins_type : (k : TypeExpr) (ts : List Token) → SpellsType k ts → Begins Be
 begins_type k ts d = weaker (λ f. IsTypeForm f k.what) BeginsType (λ f form. record { kind = k.what; form = form }) ts (type_begins k ts d)
 
 pub type_form_law : TypeFormLaw
-type_form_law k t ts d = first_holds (λ f. IsTypeForm f k.what) t ts (type_begins k (t ∷ ts) d)
+type_form_law k t ts d = first_holds (λ f. IsTypeForm f k.what) t ts (type_begins k (t ∷ ts) (meant d))
 
 -- ---- statements
 
@@ -107,7 +108,7 @@ stmt_begins closed s ts (G.return t m v a is d semi) = of_kind _ (T.Keyword K.Re
 stmt_begins closed s ts (G.submit t o m n c e2 e stream a is left d comma name right semi) = of_kind _ (T.Keyword K.Submit) t _ is (F.submit e _)
 
 pub form_law : FormLaw
-form_law closed s t ts d = first_holds (λ f. IsForm f s.what) t ts (stmt_begins closed s (t ∷ ts) d)
+form_law closed s t ts d = first_holds (λ f. IsForm f s.what) t ts (stmt_begins closed s (t ∷ ts) (meant d))
 
 -- ---- definitions
 
@@ -133,4 +134,4 @@ definition_begins d ts (U.a_function x a spells) = function_begins x ts spells
 definition_begins d ts (U.a_composite x a spells) = composite_begins x ts spells
 
 pub definition_form_law : DefinitionFormLaw
-definition_form_law d t ts spells = first_holds (λ f. IsDefinitionForm f d) t ts (definition_begins d (t ∷ ts) spells)
+definition_form_law d t ts spells = first_holds (λ f. IsDefinitionForm f d) t ts (definition_begins d (t ∷ ts) (meant spells))

@@ -4,4 +4,9 @@ mod ExpressionLines
 mod PartLines
 mod StatementLines
 mod DefinitionLines
+pub mod ToLines
+pub mod UnitToLines
 mod Weighing
+mod Meanings
+mod LineParts
+pub mod FromLines

@@ -20,10 +20,8 @@ use Rattle.spl_tree.specs.declared.unit.Definition.{Definition}
 use Rattle.spl_tree.specs.declared.unit.Definition.TheVariants as D
 use Rattle.spl_tree.specs.declared.unit.FunctionDefinition.{FunctionDefinition}
 use Rattle.spl_tree.specs.declared.unit.TypeDefinition.{TypeDefinition}
-use Rattle.spl_tree.specs.Grammar.{Expr}
-use Rattle.spl_tree.specs.StatementGrammar.{Stmt, SpellsStmt}
-use Rattle.spl_tree.specs.TypeGrammar.{TypeExpr, SpellsType}
-use Rattle.spl_tree.specs.UnitGrammar.{SpellsDefinition}
+use Rattle.spl_tree.specs.Grammar.{Spells, AType, Statement, ADefinition}
+use Rattle.spl_tree.specs.Trees.{Expr, Stmt, TypeExpr}
 
 -- ---- types
 
@@ -39,7 +37,7 @@ pub data IsTypeForm : TokenKind → TypeKind → Type 0 where
   tuple : (xs : List (Attribute TypeExpr)) → IsTypeForm (T.Keyword K.Tuple) (Y.Tuple xs)
 
 abbrev pub TypeFormLaw : Type 0
-TypeFormLaw = (k : TypeExpr) (t : Token) (ts : List Token) → SpellsType k (t ∷ ts) → IsTypeForm t.kind k.what
+TypeFormLaw = (k : TypeExpr) (t : Token) (ts : List Token) → Spells (AType k) (t ∷ ts) → IsTypeForm t.kind k.what
 
 -- a token with which a type begins
 pub record BeginsType (first : TokenKind) : Type 0 where
@@ -64,7 +62,7 @@ pub data IsForm : TokenKind → StmtKind → Type 0 where
 
 -- a statement has a form that its first token allows
 abbrev pub FormLaw : Type 0
-FormLaw = (closed : Bool) (s : Stmt) (t : Token) (ts : List Token) → SpellsStmt closed s (t ∷ ts) → IsForm t.kind s.what
+FormLaw = (closed : Bool) (s : Stmt) (t : Token) (ts : List Token) → Spells (Statement closed s) (t ∷ ts) → IsForm t.kind s.what
 
 -- ---- definitions
 
@@ -76,4 +74,4 @@ pub data IsDefinitionForm : TokenKind → Definition → Type 0 where
   function : (first : TokenKind) (x : FunctionDefinition) → BeginsType first → IsDefinitionForm first (D.Function x)
 
 abbrev pub DefinitionFormLaw : Type 0
-DefinitionFormLaw = (d : Definition) (t : Token) (ts : List Token) → SpellsDefinition d (t ∷ ts) → IsDefinitionForm t.kind d
+DefinitionFormLaw = (d : Definition) (t : Token) (ts : List Token) → Spells (ADefinition d) (t ∷ ts) → IsDefinitionForm t.kind d

@@ -19,9 +19,10 @@ use Rattle.spl_tree.specs.declared.symbol.Symbol.{Symbol}
 use Rattle.spl_tree.specs.declared.symbol.Symbol.TheVariants as S
 use Rattle.spl_tree.specs.declared.token.Token.{Token}
 use Rattle.spl_tree.specs.declared.token.TokenKind.TheVariants as T
-use Rattle.spl_tree.specs.Grammar.{Expr, Elements, Steps, Spells}
-use Rattle.spl_tree.specs.TypeGrammar.{TypeExpr, SpellsType, SpellsAttributes, SpellsShape, SpellsFunctionParameters}
-use Rattle.spl_tree.specs.StatementGrammar.{SpellsValue, SpellsMutable, SpellsBlock, Stmt, SpellsPlace, SpellsCall, SpellsDeclaration, SpellsStmt, SpellsStmts, SpellsArms}
+use Rattle.spl_tree.specs.Trees.{Expr, TypeExpr, Stmt}
+use Rattle.spl_tree.specs.steps.Grammar.{Elements, Steps, Spells}
+use Rattle.spl_tree.specs.steps.TypeGrammar.{SpellsType, SpellsAttributes, SpellsShape, SpellsFunctionParameters}
+use Rattle.spl_tree.specs.steps.StatementGrammar.{SpellsValue, SpellsMutable, SpellsBlock, SpellsPlace, SpellsCall, SpellsDeclaration, SpellsStmt, SpellsStmts, SpellsArms}
 use Rattle.grammar_laws.specs.Pieces.{One, word, sign, Name, In, first}
 
 -- ---- types

@@ -3,4 +3,7 @@
 
 mod laws;
 
-pub use laws::{expression_lines_law, forms_law, lines_law, unit_lines_law, weighing_law};
+pub use laws::{
+    expression_lines_law, forms_law, lines_law, ranges_law, relations_law, unit_lines_law,
+    units_on_literals, weighing_law,
+};

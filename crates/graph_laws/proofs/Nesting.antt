@@ -10,7 +10,7 @@ use Rattle.std.proofs.lemmas.Option.{slice_get-map, slice_get_within}
 use Rattle.spl_tree.specs.declared.unit.Composite.{Composite}
 use Rattle.spl_tree.specs.declared.unit.Definition.{Definition}
 use Rattle.spl_tree.specs.declared.unit.Invocation.{Invocation}
-use Rattle.spl_tree.specs.Grammar.{placed}
+use Rattle.spl_tree.specs.Trees.{placed}
 use Rattle.language_model.specs.Composites.{composites, composite_named}
 use Rattle.language_model.specs.Invoking.{Body, target_of}
 use Rattle.language_model.specs.Recursion.{Caller, Calls, IsCall, Leads, directly, through, IsAcyclic, HasNoRecursion, call_among, calls_among, composite_caller, composite_callers}

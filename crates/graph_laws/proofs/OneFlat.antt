@@ -7,7 +7,7 @@ use Rattle.std.proofs.lemmas.Option.{same_Some, slice_get_within, get_or_from_sl
 use Rattle.spl_tree.specs.declared.expression.Placed.{Placed}
 use Rattle.spl_tree.specs.declared.unit.Composite.{Composite}
 use Rattle.spl_tree.specs.declared.unit.Definition.{Definition}
-use Rattle.spl_tree.specs.Grammar.{placed}
+use Rattle.spl_tree.specs.Trees.{placed}
 use Rattle.language_model.specs.declared.expansion.ExpansionRefusal.TheVariants as R
 use Rattle.language_model.specs.Composites.{composites}
 use Rattle.language_model.specs.Flat.{IsMain, flat_from, twice, no_main, recursive, expands}

@@ -1,6 +1,6 @@
 //! Laws of the definitions.
 ghost use Rattle.std.specs.Prelude.{◌≡◌, [], Some, None, Ok, Err, codes};
-ghost use Rattle.spl_tree.specs.Grammar.{placed};
+ghost use Rattle.spl_tree.specs.Trees.{placed};
 ghost use Rattle.language_model.specs.declared.expansion.ExpansionRefusal.TheVariants as R;
 ghost use Rattle.language_model.specs.Composites.{main_of};
 ghost use Rattle.language_model.specs.Declarations.{declared_twice};

@@ -6,8 +6,7 @@ use Rattle.std.proofs.Common.{sym, subst, ◌∙◌}
 use Rattle.spl_tree.specs.declared.body.Statement.{Statement}
 use Rattle.spl_tree.specs.declared.body.Statement.TheVariants as T
 use Rattle.spl_tree.specs.declared.statement.StmtKind.{StmtKind}
-use Rattle.spl_tree.specs.Grammar.{Expr}
-use Rattle.spl_tree.specs.StatementGrammar.{Stmt}
+use Rattle.spl_tree.specs.Trees.{Expr, Stmt}
 use Rattle.language_model.specs.declared.scope.Scope.{Scope}
 use Rattle.language_model.specs.BodyFits as G
 use Rattle.language_model.specs.BodyFits.{Purpose, OfFunction, OfHandler, RowReturns, Returns, ArmsReturn}

@@ -30,7 +30,7 @@ use Rattle.spl_tree.specs.declared.expression.ExprKind.{ExprKind}
 use Rattle.spl_tree.specs.declared.expression.ExprKind.TheVariants as E
 use Rattle.spl_tree.specs.declared.expression.ExprKind.TheOpen as X
 use Rattle.spl_tree.specs.declared.expression.ExprKind.TheFolds.{map-ExprKind}
-use Rattle.spl_tree.specs.Grammar.{Expr}
+use Rattle.spl_tree.specs.Trees.{Expr}
 use Rattle.spl_tree.proofs.Induction.{OfExpr, OfEntry, OfField, OfStep, ExprSteps, expr_ind}
 use Rattle.spl_tree.specs.declared.code.Code.{Code}
 use Rattle.spl_tree.specs.declared.code.Code.TheVariants as C

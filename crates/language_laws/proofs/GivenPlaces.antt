@@ -2,7 +2,7 @@
 use Rattle.std.specs.Prelude.{◌≡◌, ℕ, false, List, [], ◌∷◌, Some, None, Ok, if◌then◌else◌}
 use Rattle.std.specs.Option.{option_map_or}
 use Rattle.std.proofs.Common.{sym, ap, subst, ◌∙◌}
-use Rattle.spl_tree.specs.Grammar.{Expr, placed}
+use Rattle.spl_tree.specs.Trees.{Expr, placed}
 use Rattle.spl_tree.specs.declared.body.Place.{Place}
 use Rattle.spl_tree.specs.declared.code.Code.{Code}
 use Rattle.spl_tree.specs.declared.code.Code.TheVariants as C

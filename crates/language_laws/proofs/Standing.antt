@@ -29,7 +29,7 @@ use Rattle.spl_tree.specs.declared.expression.Placed.{Placed}
 use Rattle.spl_tree.specs.declared.expression.PrefixOperator.{PrefixOperator}
 use Rattle.spl_tree.specs.declared.expression.Step.{Step}
 use Rattle.spl_tree.specs.declared.expression.Step.TheVariants as N
-use Rattle.spl_tree.specs.Grammar.{Expr}
+use Rattle.spl_tree.specs.Trees.{Expr}
 use Rattle.spl_tree.proofs.Induction.{ExprSteps, OfExpr, OfEntry, OfField, OfStep, expr_ind}
 use Rattle.language_model.specs.declared.scope.CheckRefusal.{CheckRefusal}
 use Rattle.language_model.specs.declared.scope.Scope.{Scope}

@@ -12,9 +12,7 @@ use Rattle.spl_tree.specs.declared.statement.StmtKind.TheOpen as Z
 use Rattle.spl_tree.specs.declared.statement.StmtKind.TheOpen.{StmtKind-F}
 use Rattle.spl_tree.specs.declared.statement.StmtKind.TheViews.{roll-StmtKind}
 use Rattle.spl_tree.specs.declared.statement.StmtKind.TheFolds.{ind-StmtKind, map-StmtKind}
-use Rattle.spl_tree.specs.Grammar.{Expr}
-use Rattle.spl_tree.specs.StatementGrammar.{Stmt}
-use Rattle.spl_tree.specs.TypeGrammar.{TypeExpr}
+use Rattle.spl_tree.specs.Trees.{Expr, Stmt, TypeExpr}
 
 -- P holds of the statement after a condition
 abbrev pub OfBranch : (StmtKind → Type 0) → Expr × Stmt → Type 0

@@ -4,7 +4,7 @@ use Rattle.std.proofs.Common.{ap, ap₂, ◌∙◌}
 use Rattle.spl_value.specs.declared.types.IntKind.TheVariants.{I32}
 use Rattle.spl_value.specs.declared.types.SplType.TheVariants as S
 use Rattle.spl_value.specs.declared.types.SplType.TheViews.{out-SplType}
-use Rattle.spl_tree.specs.Grammar.{Expr, placed}
+use Rattle.spl_tree.specs.Trees.{Expr, placed}
 use Rattle.spl_tree.specs.declared.expression.BinaryOperator.TheVariants as B
 use Rattle.spl_tree.specs.declared.expression.ExprKind.TheVariants as E
 use Rattle.spl_tree.specs.declared.expression.ExprKind.TheOpen as X

@@ -1,6 +1,6 @@
 -- The types that expressions have by themselves, where such types are wanted.
 use Rattle.std.specs.Prelude.{◌≡◌, Some, None, Ok}
-use Rattle.spl_tree.specs.Grammar.{Expr}
+use Rattle.spl_tree.specs.Trees.{Expr}
 use Rattle.language_model.specs.declared.scope.Scope.{Scope}
 use Rattle.language_model.specs.declared.scope.Typed.{Typed}
 use Rattle.language_model.specs.Typing.{typing}

@@ -8,7 +8,7 @@ ghost use Rattle.language_model.specs.TypeNames.{types_of};
 ghost use Rattle.language_model.specs.Typing.{typing, refused, unknown};
 ghost use Rattle.language_model.specs.Written.{Bare, Of, slot_of_written, written, renamed};
 ghost use Rattle.language_model.specs.declared.scope.CheckRefusal.{CheckRefusal};
-ghost use Rattle.spl_tree.specs.Grammar.{placed};
+ghost use Rattle.spl_tree.specs.Trees.{placed};
 ghost use Rattle.spl_tree.specs.declared.code.IntegerOperator.TheVariants.{Add};
 ghost use Rattle.spl_tree.specs.declared.code.OrderOperator.TheVariants.{Less};
 ghost use Rattle.std.specs.Prelude.{◌≡◌, [], ◌∷◌, Some, None, Ok, Err, codes, pos};

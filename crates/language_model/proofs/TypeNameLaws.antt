@@ -10,7 +10,7 @@ use Rattle.spl_tree.specs.declared.shape.TypeKind.TheOpen as Y
 use Rattle.spl_tree.specs.declared.shape.TypeKind.TheOpen.{TypeKind-F}
 use Rattle.spl_tree.specs.declared.shape.TypeKind.TheViews.{out-TypeKind}
 use Rattle.spl_tree.specs.declared.shape.TypeKind.TheFolds.{fold-TypeKind, fold_out-TypeKind, map-TypeKind}
-use Rattle.spl_tree.specs.TypeGrammar.{TypeExpr}
+use Rattle.spl_tree.specs.Trees.{TypeExpr}
 use Rattle.language_model.specs.TypeNames.{Types, Written, level_type, written, written_attributes, Names, level_names, type_names}
 
 -- ---- what types mean

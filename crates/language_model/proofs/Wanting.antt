@@ -15,7 +15,7 @@ use Rattle.spl_tree.specs.declared.expression.ExprKind.TheOpen as X
 use Rattle.spl_tree.specs.declared.expression.ExprKind.TheOpen.{ExprKind-F}
 use Rattle.spl_tree.specs.declared.expression.ExprKind.TheViews.{out-ExprKind}
 use Rattle.spl_tree.specs.declared.expression.ExprKind.TheFolds.{map-ExprKind}
-use Rattle.spl_tree.specs.Grammar.{Expr}
+use Rattle.spl_tree.specs.Trees.{Expr}
 use Rattle.spl_tree.proofs.Induction.{ExprSteps, expr_ind}
 use Rattle.language_model.specs.declared.scope.CheckRefusal.{CheckRefusal}
 use Rattle.language_model.specs.declared.scope.Scope.{Scope}

@@ -1,7 +1,7 @@
 -- What bodies are where they have code.
 use Rattle.std.specs.Prelude.{◌≡◌, true, false, List, Ok}
 use Rattle.spl_tree.specs.declared.body.Statement.{Statement}
-use Rattle.spl_tree.specs.StatementGrammar.{Stmt}
+use Rattle.spl_tree.specs.Trees.{Stmt}
 use Rattle.language_model.specs.declared.scope.Scope.{Scope}
 use Rattle.language_model.specs.BodyFits.{RowFits, RowReturns}
 use Rattle.language_model.specs.BodyTyping.{Setting, body_typing, returns}

@@ -24,9 +24,7 @@ use Rattle.spl_tree.specs.declared.statement.Declaration.{Declaration}
 use Rattle.spl_tree.specs.declared.statement.StmtKind.TheOpen as Z
 use Rattle.spl_tree.specs.declared.statement.StmtKind.TheOpen.{StmtKind-F}
 use Rattle.spl_tree.specs.declared.statement.StmtKind.TheFolds.{fold-StmtKind}
-use Rattle.spl_tree.specs.Grammar.{Expr}
-use Rattle.spl_tree.specs.StatementGrammar.{Stmt}
-use Rattle.spl_tree.specs.TypeGrammar.{TypeExpr}
+use Rattle.spl_tree.specs.Trees.{Expr, Stmt, TypeExpr}
 use Rattle.language_model.specs.declared.scope.Scope.{Scope}
 use Rattle.language_model.specs.declared.scope.Variable.{Variable}
 use Rattle.language_model.specs.BodyFits.{Purpose, OfFunction, OfHandler, with_variable}

@@ -4,8 +4,7 @@ use Rattle.std.specs.List.{list_all}
 use Rattle.spl_tree.specs.declared.expression.Placed.{Placed}
 use Rattle.spl_tree.specs.declared.statement.StmtKind.{StmtKind}
 use Rattle.spl_tree.specs.declared.statement.StmtKind.TheFolds.{fold-StmtKind}
-use Rattle.spl_tree.specs.Grammar.{Expr}
-use Rattle.spl_tree.specs.StatementGrammar.{Stmt}
+use Rattle.spl_tree.specs.Trees.{Expr, Stmt}
 use Rattle.language_model.specs.BodyTyping.{Stated, stated, level_returns}
 
 abbrev pub row_stated : List Stmt → List (Placed Stated)

@@ -21,8 +21,7 @@ use Rattle.spl_tree.specs.declared.unit.Definition.TheVariants as D
 use Rattle.spl_tree.specs.declared.unit.HeadPort.{HeadPort}
 use Rattle.spl_tree.specs.declared.unit.Invocation.{Invocation}
 use Rattle.spl_tree.specs.declared.unit.Logic.{Logic}
-use Rattle.spl_tree.specs.StatementGrammar.{Stmt}
-use Rattle.spl_tree.specs.TypeGrammar.{TypeExpr, Shape}
+use Rattle.spl_tree.specs.Trees.{Stmt, TypeExpr, Shape}
 use Rattle.language_model.specs.Typing.{call_of}
 
 -- ---- names that stand again

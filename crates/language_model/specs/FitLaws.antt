@@ -3,7 +3,7 @@ use Rattle.std.specs.Prelude.{◌≡◌, ℕ, false, List, [], Some, Ok}
 use Rattle.spl_value.specs.declared.types.SplType.{SplType}
 use Rattle.spl_tree.specs.declared.code.Code.{Code}
 use Rattle.spl_tree.specs.declared.code.Slot.{Slot}
-use Rattle.spl_tree.specs.Grammar.{Expr}
+use Rattle.spl_tree.specs.Trees.{Expr}
 use Rattle.language_model.specs.declared.scope.Dollar.{Dollar}
 use Rattle.language_model.specs.declared.scope.Scope.{Scope}
 use Rattle.language_model.specs.declared.scope.Typed.{Typed}

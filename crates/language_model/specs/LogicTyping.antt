@@ -23,7 +23,7 @@ use Rattle.spl_tree.specs.declared.unit.HandledEvent.{HandledEvent}
 use Rattle.spl_tree.specs.declared.unit.HandledEvent.TheVariants as H
 use Rattle.spl_tree.specs.declared.unit.Handler.{Handler}
 use Rattle.spl_tree.specs.declared.unit.Logic.{Logic}
-use Rattle.spl_tree.specs.Grammar.{Expr}
+use Rattle.spl_tree.specs.Trees.{Expr}
 use Rattle.language_model.specs.declared.checked.Handled.{Handled}
 use Rattle.language_model.specs.declared.checked.Handlers.{Handlers}
 use Rattle.language_model.specs.declared.checked.StateVariable.{StateVariable}

@@ -18,8 +18,7 @@ use Rattle.spl_tree.specs.declared.unit.OutputAssignments.{OutputAssignments}
 use Rattle.spl_tree.specs.declared.unit.Parameter.{Parameter}
 use Rattle.spl_tree.specs.declared.unit.PortWindow.{PortWindow}
 use Rattle.spl_tree.specs.declared.unit.WindowPart.{WindowPart}
-use Rattle.spl_tree.specs.Grammar.{Expr, placed}
-use Rattle.spl_tree.specs.StatementGrammar.{Stmt}
+use Rattle.spl_tree.specs.Trees.{Expr, placed, Stmt}
 
 -- what is called, or the name of a `$` parameter without the `$`
 pub data Mention : Type 0 where

@@ -18,7 +18,7 @@ use Rattle.spl_tree.specs.declared.expression.ExprKind.TheOpen.{ExprKind-F}
 use Rattle.spl_tree.specs.declared.expression.ExprKind.TheViews.{out-ExprKind}
 use Rattle.spl_tree.specs.declared.expression.Field.{Field}
 use Rattle.spl_tree.specs.declared.unit.OutputAssignments.{OutputAssignments}
-use Rattle.spl_tree.specs.Grammar.{Expr}
+use Rattle.spl_tree.specs.Trees.{Expr}
 use Rattle.language_model.specs.declared.checked.CollectedAttribute.{CollectedAttribute}
 use Rattle.language_model.specs.declared.checked.Collector.{Collector}
 use Rattle.language_model.specs.declared.checked.Collector.TheVariants as K

@@ -12,7 +12,7 @@ use Rattle.spl_tree.specs.declared.graph.Expansion.{Expansion}
 use Rattle.spl_tree.specs.declared.graph.Op.{Op}
 use Rattle.spl_tree.specs.declared.graph.OpKind.{OpKind}
 use Rattle.spl_tree.specs.declared.unit.Definition.{Definition}
-use Rattle.spl_tree.specs.Grammar.{Expr, placed}
+use Rattle.spl_tree.specs.Trees.{Expr, placed}
 use Rattle.language_model.specs.Declarations.{is_same}
 use Rattle.language_model.specs.DollarTargets.{followed, invocation_at, value_named}
 use Rattle.language_model.specs.Kinds.{rules_of}

@@ -23,7 +23,7 @@ use Rattle.spl_tree.specs.declared.unit.Definition.{Definition}
 use Rattle.spl_tree.specs.declared.unit.HeadPort.{HeadPort}
 use Rattle.spl_tree.specs.declared.unit.InputPort.{InputPort}
 use Rattle.spl_tree.specs.declared.unit.OutputStream.{OutputStream}
-use Rattle.spl_tree.specs.TypeGrammar.{Shape}
+use Rattle.spl_tree.specs.Trees.{Shape}
 use Rattle.language_model.specs.Expansion.{place_of}
 use Rattle.language_model.specs.Invoking.{input_names, stream_names}
 use Rattle.language_model.specs.Leading.{leads_back}

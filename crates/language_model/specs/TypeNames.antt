@@ -18,7 +18,7 @@ use Rattle.spl_tree.specs.declared.unit.Composite.{Composite}
 use Rattle.spl_tree.specs.declared.unit.Definition.{Definition}
 use Rattle.spl_tree.specs.declared.unit.Definition.TheVariants as D
 use Rattle.spl_tree.specs.declared.unit.TypeDefinition.{TypeDefinition}
-use Rattle.spl_tree.specs.TypeGrammar.{TypeExpr, Shape}
+use Rattle.spl_tree.specs.Trees.{TypeExpr, Shape}
 use Rattle.spl_tree.specs.Words.{keyword_word}
 use Rattle.language_model.specs.declared.scope.CheckError.TheVariants as E
 use Rattle.language_model.specs.Leading.{leads_back}

@@ -20,7 +20,7 @@ use Rattle.spl_value.specs.Values.{top}
 use Rattle.spl_tree.specs.declared.token.Number.{Number}
 use Rattle.spl_tree.specs.declared.keyword.Keyword.TheVariants as W
 use Rattle.spl_tree.specs.Words.{keyword_word}
-use Rattle.spl_tree.specs.Grammar.{Expr}
+use Rattle.spl_tree.specs.Trees.{Expr}
 use Rattle.spl_tree.specs.declared.expression.Placed.{Placed}
 use Rattle.spl_tree.specs.declared.expression.Field.{Field}
 use Rattle.spl_tree.specs.declared.expression.Step.{Step}

@@ -1,6 +1,6 @@
 -- Expressions inside others, as parts with their places.
 use Rattle.std.specs.Prelude.{ℕ, List, map}
-use Rattle.spl_tree.specs.Grammar.{Expr}
+use Rattle.spl_tree.specs.Trees.{Expr}
 use Rattle.spl_tree.specs.declared.expression.Placed.{Placed}
 use Rattle.spl_tree.specs.declared.expression.Field.{Field}
 use Rattle.spl_tree.specs.declared.expression.ExprKind.{ExprKind}

@@ -1,6 +1,6 @@
 -- Where the expressions of an operator stand, by what a call is given.
 use Rattle.std.specs.Prelude.{Option}
-use Rattle.spl_tree.specs.Grammar.{Expr}
+use Rattle.spl_tree.specs.Trees.{Expr}
 use Rattle.language_model.specs.DollarTargets.{followed}
 use Rattle.language_model.specs.Literals.{number_literal}
 use Rattle.language_model.specs.ParameterTyping.{Site}

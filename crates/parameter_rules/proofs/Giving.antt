@@ -10,7 +10,7 @@ use Rattle.spl_value.specs.declared.types.SplType.{SplType}
 use Rattle.spl_value.specs.declared.types.SplType.TheViews.{out-SplType}
 use Rattle.spl_tree.specs.declared.graph.OpKind.{OpKind}
 use Rattle.spl_tree.specs.declared.unit.Parameter.{Parameter}
-use Rattle.spl_tree.specs.Grammar.{Expr}
+use Rattle.spl_tree.specs.Trees.{Expr}
 use Rattle.language_model.specs.declared.checked.Given.{Given}
 use Rattle.language_model.specs.declared.checked.ParameterValue.{ParameterValue}
 use Rattle.language_model.specs.declared.kinds.Role.{Role}

@@ -10,7 +10,7 @@ use Rattle.spl_tree.specs.declared.expression.ExprKind.TheOpen as X
 use Rattle.spl_tree.specs.declared.expression.ExprKind.TheOpen.{ExprKind-F}
 use Rattle.spl_tree.specs.declared.expression.ExprKind.TheViews.{out-ExprKind}
 use Rattle.spl_tree.specs.declared.expression.ExprKind.TheFolds.{fold-ExprKind, fold_out-ExprKind, map-ExprKind}
-use Rattle.spl_tree.specs.Grammar.{Expr, Prefix, placed}
+use Rattle.spl_tree.specs.Trees.{Expr, Prefix, placed}
 use Rattle.language_model.specs.Mentions.{Mentions, At, Called, Dollar, level_mentions, expr_mentions}
 use Rattle.language_model.specs.Mentions as D
 use Rattle.language_model.proofs.ReadingLaws.{steps_of}

@@ -1,7 +1,7 @@
 -- Mentions as the code has them.
 use Rattle.std.specs.Prelude.{List, map}
 use Rattle.spl_tree.specs.declared.expression.Placed.{Placed}
-use Rattle.spl_tree.specs.Grammar.{placed}
+use Rattle.spl_tree.specs.Trees.{placed}
 use Rattle.language_model.specs.Mentions.{Mentions, Called, Dollar}
 use Rattle.language_model.specs.Mentions as D
 use Rattle.program_tables.specs.declared.mentions.Mention.{Mention}

@@ -5,7 +5,7 @@ use Rattle.spl_tree.specs.declared.graph.Graph.{Graph}
 use Rattle.spl_tree.specs.declared.token.Tokens.{Tokens}
 use Rattle.spl_tree.specs.declared.unit.Definition.{Definition}
 use Rattle.spl_tree.specs.Laws.{LexedLaw}
-use Rattle.spl_tree.specs.Tokens.{tokens}
+use Rattle.spl_tree.specs.Tokens.{IsLexed, tokens}
 use Rattle.spl_tree.specs.Tokens as lexical
 use Rattle.expr_parser.specs.declared.answer.SyntaxAnswer.{SyntaxAnswer}
 use Rattle.expr_parser.specs.declared.answer.SyntaxAnswer.TheVariants as S
@@ -43,12 +43,19 @@ abbrev BehindTokens : List (List ℕ) → Result Tokens lexical.Refusal → Come
 BehindTokens names (Ok ts) x = (answer : Result (List Definition) SyntaxAnswer) × ParsesUnit ts answer × BehindAnswer names answer x
 BehindTokens names (Err refusal) x = x ≡ Err (Lexical refusal.0 refusal.1)
 
+-- what follows from the tokens or the refusal that bytes have follows from what is computed of them
+of_computed : LexedLaw → (bytes : List ℕ) (names : List (List ℕ)) (r : Result Tokens lexical.Refusal) (x : Come) → IsLexed bytes r → BehindTokens names r x
+    → BehindTokens names (tokens bytes) x
+of_computed lexed bytes names r x is behind = subst (λ s. BehindTokens names s x) (sym ((lexed bytes r).0 is)) behind
+
 by_stages : LexedLaw → (bytes : List ℕ) (names : List (List ℕ)) (x : Come) → IsAccepted bytes names x → BehindTokens names (tokens bytes) x
-by_stages lexed bytes names x (no_tokens error at is) = subst (λ r. BehindTokens names r (Err (Lexical error at))) (sym ((lexed bytes (Err (error, at))).0 is)) refl
-by_stages lexed bytes names x (too_deep ts at is deep) = subst (λ r. BehindTokens names r (Err (TooDeep at))) (sym ((lexed bytes (Ok ts)).0 is)) (Err (S.TooDeep at), deep, refl)
-by_stages lexed bytes names x (unexpected ts at is refused) = subst (λ r. BehindTokens names r (Err (Unexpected at))) (sym ((lexed bytes (Ok ts)).0 is)) (Err (S.Unexpected at), refused, refl)
-by_stages lexed bytes names x (no_graph ts unit refusal is spells flat) = subst (λ r. BehindTokens names r (Err (Expansion refusal))) (sym ((lexed bytes (Ok ts)).0 is)) (Ok unit, spells, (Err refusal, flat, refl))
-by_stages lexed bytes names x (checks ts unit g is spells flat) = subst (λ r. BehindTokens names r (refused_check (checked unit g))) (sym ((lexed bytes (Ok ts)).0 is)) (Ok unit, spells, (Ok g, flat, refl))
+by_stages lexed bytes names x (no_tokens error at is) = of_computed lexed bytes names (Err (error, at)) (Err (Lexical error at)) is refl
+by_stages lexed bytes names x (too_deep ts at is deep) = of_computed lexed bytes names (Ok ts) (Err (TooDeep at)) is (Err (S.TooDeep at), deep, refl)
+by_stages lexed bytes names x (unexpected ts at is refused) = of_computed lexed bytes names (Ok ts) (Err (Unexpected at)) is (Err (S.Unexpected at), refused, refl)
+by_stages lexed bytes names x (no_graph ts unit refusal is spells flat) =
+    of_computed lexed bytes names (Ok ts) (Err (Expansion refusal)) is (Ok unit, spells, (Err refusal, flat, refl))
+by_stages lexed bytes names x (checks ts unit g is spells flat) =
+    of_computed lexed bytes names (Ok ts) (refused_check (checked unit g)) is (Ok unit, spells, (Ok g, flat, refl))
 
 -- ---- one thing
 

@@ -11,7 +11,7 @@ use Rattle.spl_tree.specs.declared.expression.ExprKind.TheOpen as X
 use Rattle.spl_tree.specs.declared.expression.ExprKind.TheOpen.{ExprKind-F}
 use Rattle.spl_tree.specs.declared.expression.ExprKind.TheViews.{out-ExprKind}
 use Rattle.spl_tree.specs.declared.expression.ExprKind.TheFolds.{fold-ExprKind, fold_out-ExprKind, map-ExprKind}
-use Rattle.spl_tree.specs.Grammar.{Expr, Prefix}
+use Rattle.spl_tree.specs.Trees.{Expr, Prefix}
 use Rattle.spl_value.proofs.Lists.{total}
 
 -- an item weighs no more than its row

@@ -14,7 +14,7 @@ use Rattle.spl_tree.specs.declared.expression.ExprKind.TheOpen as O
 use Rattle.spl_tree.specs.declared.expression.ExprKind.TheOpen.{ExprKind-F}
 use Rattle.spl_tree.specs.declared.expression.ExprKind.TheViews.{roll-ExprKind}
 use Rattle.spl_tree.specs.declared.expression.ExprKind.TheFolds.{ind-ExprKind, map-ExprKind}
-use Rattle.spl_tree.specs.Grammar.{Expr, Prefix, placed}
+use Rattle.spl_tree.specs.Trees.{Expr, Prefix, placed}
 
 -- P holds of the expression at a place
 abbrev pub OfExpr : (ExprKind → Type 0) → Expr → Type 0

@@ -11,3 +11,4 @@ pub mod UnitSpellings
 pub mod ExprWeights
 pub mod StmtWeights
 pub mod StatementWeights
+pub mod AlikePhrases

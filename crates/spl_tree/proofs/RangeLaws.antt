@@ -23,11 +23,13 @@ use Rattle.spl_tree.specs.declared.expression.ExprKind.TheOpen as X
 use Rattle.spl_tree.specs.declared.expression.ExprKind.TheOpen.{ExprKind-F}
 use Rattle.spl_tree.specs.declared.expression.ExprKind.TheViews.{out-ExprKind}
 use Rattle.spl_tree.specs.declared.expression.ExprKind.TheFolds.{fold_out-ExprKind, map-ExprKind}
-use Rattle.spl_tree.specs.Tokens.{Refusal, word_kind, number_kind, digits, suffix, suffix_kind, text_kind, unescaped, between_quotes, symbol_kind, kind_of}
-use Rattle.spl_tree.specs.Laws.{Cut, done, gap, token, RangesLaw}
+use Rattle.spl_tree.specs.declared.token.Tokens.{Tokens}
+use Rattle.spl_tree.specs.Tokens.{Refusal, word_kind, number_kind, digits, suffix, suffix_kind, text_kind, unescaped, between_quotes, symbol_kind, kind_of, tokens}
+use Rattle.spl_tree.specs.Laws.{Cut, done, gap, token}
 use Rattle.spl_tree.proofs.CutLaws.{cut_law}
-use Rattle.spl_tree.specs.Grammar as G
-use Rattle.spl_tree.specs.Grammar.{Expr, placed, Literal, Primary, Elements, Items, Entries, Fields, Steps, Operand, Unary, At, Spells}
+use Rattle.spl_tree.specs.steps.Grammar as G
+use Rattle.spl_tree.specs.Trees.{Expr, placed}
+use Rattle.spl_tree.specs.steps.Grammar.{Literal, Primary, Elements, Items, Entries, Fields, Steps, Operand, Unary, At, Spells}
 use Rattle.spl_tree.specs.Ranges.{number_in_range, step_in_range, level_in_range, in_range}
 use Rattle.spl_value.proofs.Lists.{all_left, all_right, all_more}
 
@@ -215,6 +217,7 @@ mutual
       (both_true (both_true (at_ranged 9 c a test (before a (q ∷ (b ++ k ∷ d)) h)) (spells_ranged x b first (before b (k ∷ d) rest)))
       (spells_ranged y d second (behind b (k ∷ d) rest).1))
 
-pub ranges_law : RangesLaw
+pub ranges_law : (bytes : List ℕ) (ts : Tokens) (e : Expr) (before own after : List Token) → tokens bytes ≡ Ok ts → ts.list ≡ before ++ (own ++ after) → Spells e own
+    → IsTrue (in_range e.what)
 ranges_law bytes ts e first own after is list spelled =
     spells_ranged e own spelled (before own after (behind first (own ++ after) (subst AllRanged list (cut_ranged (cut_law bytes ts is).0))))

@@ -8,9 +8,7 @@ use Rattle.spl_tree.specs.declared.statement.StmtKind.TheOpen as Z
 use Rattle.spl_tree.specs.declared.statement.StmtKind.TheOpen.{StmtKind-F}
 use Rattle.spl_tree.specs.declared.statement.StmtKind.TheViews.{out-StmtKind}
 use Rattle.spl_tree.specs.declared.statement.StmtKind.TheFolds.{fold-StmtKind, fold_out-StmtKind, map-StmtKind}
-use Rattle.spl_tree.specs.Grammar.{Expr}
-use Rattle.spl_tree.specs.StatementGrammar.{Stmt}
-use Rattle.spl_tree.specs.TypeGrammar.{TypeExpr}
+use Rattle.spl_tree.specs.Trees.{Expr, Stmt, TypeExpr}
 use Rattle.spl_value.proofs.Lists.{total}
 
 abbrev level_weight : StmtKind-F ℕ → ℕ

@@ -1,5 +1,5 @@
 -- What tokens and weights are, in other words than their definitions.
-use Rattle.std.specs.Prelude.{◌≡◌, ◌↔◌, ℕ, ◌+◌, ◌-◌, ◌<◌, ◌≤◌, ◌==◌, ◌&&◌, ◌||◌, IsTrue, true, false, not, List, [], ◌∷◌, ◌++◌, length, take, drop, All, Some, None, Result, Ok}
+use Rattle.std.specs.Prelude.{◌≡◌, ◌↔◌, ℕ, ◌+◌, ◌-◌, ◌<◌, ◌≤◌, ◌==◌, ◌&&◌, ◌||◌, true, false, not, List, [], ◌∷◌, ◌++◌, length, take, drop, All, Some, None, Result, Ok}
 use Rattle.std.specs.List.{list_all}
 use Rattle.spl_value.specs.Decimal.{is_digit}
 use Rattle.spl_tree.specs.declared.keyword.Keyword.{Keyword}
@@ -11,8 +11,6 @@ use Rattle.spl_tree.specs.declared.token.TheConstants.{MOST_BYTES}
 use Rattle.spl_tree.specs.Bytes.{is_blank, is_word_byte, begins}
 use Rattle.spl_tree.specs.Words.{symbol_text, symbol_of, keyword_word, keyword_of}
 use Rattle.spl_tree.specs.Tokens.{Refusal, is_formed, kind_of, IsLexed, tokens}
-use Rattle.spl_tree.specs.Grammar.{Expr, Spells}
-use Rattle.spl_tree.specs.Ranges.{in_range}
 use Rattle.spl_tree.specs.Weights.{weights, most_weight, too_deep_at}
 
 -- what is computed of a program is what it has
@@ -85,8 +83,3 @@ WeightsLaw = (ts : List Token) → length (weights ts) ≡ length ts
 -- at most `most_weight` tokens are never too deep
 abbrev pub ShallowLaw : Type 0
 ShallowLaw = (ts : List Token) → length ts ≤ most_weight → too_deep_at ts ≡ None
-
--- each number of an expression that a program's tokens spell is one of its type
-abbrev pub RangesLaw : Type 0
-RangesLaw = (bytes : List ℕ) (ts : Tokens) (e : Expr) (before own after : List Token) →
-    tokens bytes ≡ Ok ts → ts.list ≡ before ++ (own ++ after) → Spells e own → IsTrue (in_range e.what)

@@ -3,15 +3,13 @@ pub mod Words
 pub mod Tokens
 pub mod Weights
 pub mod Operators
+pub mod Trees
 pub mod Grammar
-pub mod Phrases
-pub mod TypeGrammar
-pub mod StatementGrammar
-pub mod UnitGrammar
 pub mod Fronts
 pub mod Units
 pub mod Selections
 pub mod Ranges
 pub mod Laws
 pub mod TokenLaws
+pub mod steps
 pub mod examples

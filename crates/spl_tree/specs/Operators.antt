@@ -85,6 +85,20 @@ abbrev pub target_of : TokenKind → Option CastTarget
 target_of (T.Keyword k) = target_keyword k
 target_of _ = None
 
+-- the operator of an assignment that a symbol is, if it is one: none for `=`
+abbrev pub assignment_symbol : Symbol → Option (Option BinaryOperator)
+assignment_symbol S.Assign = Some None
+assignment_symbol S.PlusAssign = Some (Some B.Add)
+assignment_symbol S.MinusAssign = Some (Some B.Subtract)
+assignment_symbol S.StarAssign = Some (Some B.Multiply)
+assignment_symbol S.SlashAssign = Some (Some B.Divide)
+assignment_symbol S.PercentAssign = Some (Some B.Remainder)
+assignment_symbol _ = None
+
+abbrev pub assignment_of : TokenKind → Option (Option BinaryOperator)
+assignment_of (T.Symbol s) = assignment_symbol s
+assignment_of _ = None
+
 -- whether a token is that symbol
 abbrev pub is_symbol : Symbol → TokenKind → Bool
 is_symbol s (T.Symbol x) = bytes_eq (symbol_text s) (symbol_text x)

@@ -29,7 +29,7 @@ impl<T> Placed<T> {
 
 impl<T: Drop> Placed<Boxed<T>> {
     ghost use Rattle.std.specs.Prelude.{◌≡◌, IfOk};
-    ghost use Rattle.spl_tree.specs.Grammar.{placed};
+    ghost use Rattle.spl_tree.specs.Trees.{placed};
 
     /// Something in a box, at that place.
     pub fn boxed(alloc: Global, at: u32, what: T) -> Result<Placed<Boxed<T>>, AllocError>

@@ -5,10 +5,8 @@ ghost use Rattle.spl_tree.specs.declared.keyword.Keyword.TheVariants as K;
 ghost use Rattle.spl_tree.specs.declared.symbol.Symbol.TheVariants as S;
 ghost use Rattle.spl_tree.specs.declared.token.LexicalError.TheVariants as E;
 ghost use Rattle.spl_tree.specs.declared.token.TokenKind.TheVariants as T;
-ghost use Rattle.spl_tree.specs.Laws.{LexedLaw, CutLaw, OneCutLaw, RiseLaw, OwnBytesLaw, SymbolsLaw, KeywordsLaw, WeightsLaw, ShallowLaw, RangesLaw};
+ghost use Rattle.spl_tree.specs.Laws.{LexedLaw, CutLaw, OneCutLaw, RiseLaw, OwnBytesLaw, SymbolsLaw, KeywordsLaw, WeightsLaw, ShallowLaw};
 ghost use Rattle.spl_tree.specs.Tokens.{tokens};
-ghost use Rattle.spl_tree.specs.examples.Units.{type_of_two, nearest_else, alias_alone};
-ghost use Rattle.spl_tree.specs.UnitGrammar.{SpellsUnit};
 ghost use Rattle.spl_tree.specs.Weights.{weights};
 
 /// A program has the tokens or the refusal that are computed of it, and no others. Its tokens cut its bytes, with blanks and comments between them, each the longest
@@ -33,11 +31,6 @@ pub fn texts_law()
 pub fn weights_law()
     ensures each { WeightsLaw }
     ensures shallow { ShallowLaw }
-{}
-
-/// Each number of an expression that a program's tokens spell is one of its type.
-pub fn ranges_law()
-    ensures { RangesLaw }
 {}
 
 /// Tokens of some bytes.
@@ -80,12 +73,4 @@ pub fn weights_on_literals()
         ≡ 0 ∷ 1 ∷ 1 ∷ 1 ∷ 2 ∷ 2 ∷ 1 ∷ 0 ∷ 1 ∷ 2 ∷ 2 ∷ 1 ∷ 2 ∷ 2 ∷ 0 ∷ 0 ∷ 1 ∷ 1 ∷ []) }
     ensures block_ends { IsOkAnd (tokens (codes "{a = b + {c} d}")) (λ ts. weights ts.list
         ≡ 1 ∷ 1 ∷ 2 ∷ 2 ∷ 3 ∷ 4 ∷ 4 ∷ 3 ∷ 1 ∷ 0 ∷ []) }
-{}
-
-/// Units that the tokens of some bytes spell: attributes after the name of a type, an `else` that
-/// belongs to the nearest `if`, and an invocation with an alias alone.
-pub fn units_on_literals()
-    ensures attributes { IsOkAnd (tokens (codes "type T=int8 a,U b;")) (λ ts. SpellsUnit type_of_two ts.list) }
-    ensures nearest { IsOkAnd (tokens (codes "void f(){if(a)if(b)return;else return;}")) (λ ts. SpellsUnit nearest_else ts.list) }
-    ensures alias { IsOkAnd (tokens (codes "composite M{graph()as S=F(A){config x:y;}}")) (λ ts. SpellsUnit alias_alone ts.list) }
 {}

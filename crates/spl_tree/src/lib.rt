@@ -24,10 +24,7 @@ pub use expression::{
 };
 pub use graph::{Expansion, Graph, InputStreams, Op, OpKind, Site, Stream};
 pub use keyword::{KEYWORDS, Keyword, LeftOut};
-pub use laws::{
-    ranges_law, texts_law, tokens_law, tokens_on_literals, units_on_literals, weights_law,
-    weights_on_literals,
-};
+pub use laws::{texts_law, tokens_law, tokens_on_literals, weights_law, weights_on_literals};
 pub use shape::{Attribute, Attributes, Shape, ShapeKind, TypeExpr, TypeKind};
 pub use statement::{Block, Declaration, Stmt, StmtKind};
 pub use symbol::Symbol;

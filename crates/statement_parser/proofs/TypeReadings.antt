@@ -4,7 +4,7 @@ use Rattle.spl_tree.specs.declared.shape.Attribute.{Attribute}
 use Rattle.spl_tree.specs.declared.symbol.Symbol.{Symbol}
 use Rattle.spl_tree.specs.declared.symbol.Symbol.TheVariants as S
 use Rattle.spl_tree.specs.declared.token.Token.{Token}
-use Rattle.spl_tree.specs.TypeGrammar.{TypeExpr}
+use Rattle.spl_tree.specs.Trees.{TypeExpr}
 use Rattle.expr_parser.specs.Lines.{is}
 use Rattle.expr_parser.specs.Rules.{done, call, Answer, Took, RunsTo, Reads}
 use Rattle.expr_parser.specs.Taken.{Taken}

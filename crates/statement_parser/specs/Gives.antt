@@ -9,7 +9,7 @@ use Rattle.expr_parser.specs.declared.stop.Stop.TheVariants as S
 use Rattle.expr_parser.specs.RuleLaws.{begins_with}
 use Rattle.expr_parser.specs.Rules.{Answer, Took, Refused, RunsTo, Reads}
 use Rattle.expr_parser.specs.Taken.{Taken, TakenAs}
-use Rattle.spl_tree.specs.TypeGrammar.{TypeExpr}
+use Rattle.spl_tree.specs.Trees.{TypeExpr}
 use Rattle.statement_parser.specs.Lines.{Line, Value, rule, R, is_word, is_dollar, dollar_at, is_type, type_of}
 
 -- a value and the tokens after it, or where reading stops

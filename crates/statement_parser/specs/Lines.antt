@@ -39,9 +39,9 @@ use Rattle.spl_tree.specs.declared.unit.OutputAssignments.{OutputAssignments}
 use Rattle.spl_tree.specs.declared.unit.TypeDefinition.{TypeDefinition}
 use Rattle.spl_tree.specs.declared.unit.WindowPart.{WindowPart}
 use Rattle.spl_tree.specs.Words.{keyword_word}
-use Rattle.spl_tree.specs.Grammar.{Expr, placed}
-use Rattle.spl_tree.specs.StatementGrammar.{Stmt, assignment_of}
-use Rattle.spl_tree.specs.TypeGrammar.{TypeExpr, Shape, named}
+use Rattle.spl_tree.specs.Trees.{Expr, placed, Stmt, TypeExpr, Shape}
+use Rattle.spl_tree.specs.Operators.{assignment_of}
+use Rattle.spl_tree.specs.steps.TypeGrammar.{named}
 use Rattle.expr_parser.specs.Rules.{Rule, done, stop, look, call}
 use Rattle.expr_parser.specs.Lines as expressions
 use Rattle.expr_parser.specs.Lines.{is, is_name, name_of}

@@ -1,7 +1,7 @@
 //! Types and shapes. `depth` is how deep types may still nest in one another.
 ghost use Rattle.std.specs.Prelude.{[]};
 ghost use Rattle.expr_parser.specs.Rules.{done};
-ghost use Rattle.spl_tree.specs.Grammar.{placed};
+ghost use Rattle.spl_tree.specs.Trees.{placed};
 ghost use Rattle.statement_parser.specs.Gives.{Comes, Gives};
 ghost use Rattle.statement_parser.specs.Lines as lines;
 ghost use Rattle.statement_parser.specs.Lines.{attribute_rule, named_attribute_rule, named_shape_rule, type_before, type_between};

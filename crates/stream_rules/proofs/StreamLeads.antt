@@ -6,7 +6,7 @@ use Rattle.std.proofs.Common.{refl, ap, sym, ◌∙◌}
 use Rattle.std.proofs.lemmas.Bool.{eq-eqb}
 use Rattle.spl_tree.specs.declared.graph.Graph.{Graph}
 use Rattle.spl_tree.specs.declared.unit.Definition.{Definition}
-use Rattle.spl_tree.specs.TypeGrammar.{Shape}
+use Rattle.spl_tree.specs.Trees.{Shape}
 use Rattle.language_model.specs.Leading.{leads, leads_back}
 use Rattle.language_model.specs.Scopes.{At}
 use Rattle.language_model.specs.StreamTypes.{Attributes, Body, Origin, attributes_within, named_stream, origin_attributes, origin_of, shape_or_stream, stream_leads}

@@ -6,7 +6,7 @@ use Rattle.spl_value.specs.declared.types.SplType.{SplType}
 use Rattle.spl_value.specs.declared.types.SplType.TheOpen as T
 use Rattle.spl_value.specs.declared.types.SplType.TheOpen.{SplType-F}
 use Rattle.spl_value.specs.declared.types.SplType.TheViews.{out-SplType}
-use Rattle.spl_tree.specs.Grammar.{Expr}
+use Rattle.spl_tree.specs.Trees.{Expr}
 use Rattle.spl_tree.specs.declared.expression.Placed.{Placed}
 use Rattle.spl_tree.specs.declared.expression.Step.{Step}
 use Rattle.spl_tree.specs.declared.expression.Step.TheVariants as N

@@ -1,9 +1,8 @@
 -- What is answered of the tokens of a program is one thing.
 use Rattle.std.proofs.Common.{◌≡◌, ◌∙◌, inl, inr, take, drop, Some, Ok, Err, refl, sym, ap}
-use Rattle.spl_tree.specs.UnitGrammar.{SpellsUnit}
 use Rattle.expr_parser.specs.declared.answer.SyntaxAnswer.TheVariants as A
 use Rattle.expr_parser.proofs.PhraseLaws.{longest_one}
-use Rattle.spl_tree.specs.Units.{place_of}
+use Rattle.spl_tree.specs.Units.{place_of, SpellsProgram}
 use Rattle.unit_parser.specs.Parses.{OneAnswerLaw}
 use Rattle.unit_parser.proofs.WholeUnits.{one_unit}
 use Rattle.expr_parser.proofs.OneAnswer.{one_place, two_deep}
@@ -14,7 +13,7 @@ one_answer tokens (Ok u) (Err (A.Unexpected at)) x y = absurd (y.none u x.spells
 one_answer tokens (Ok u) (Err (A.TooDeep at)) x y = absurd (two_deep x.shallow y.first)
 one_answer tokens (Err (A.Unexpected at)) (Ok v) x y = absurd (x.none v y.spells)
 one_answer tokens (Err (A.Unexpected at)) (Err (A.Unexpected to)) x y =
-    let both = longest_one SpellsUnit tokens.list (take x.token tokens.list) (drop x.token tokens.list) (take y.token tokens.list) (drop y.token tokens.list) x.longest y.longest in
+    let both = longest_one SpellsProgram tokens.list (take x.token tokens.list) (drop x.token tokens.list) (take y.token tokens.list) (drop y.token tokens.list) x.longest y.longest in
     let same = one_place tokens.list x.token y.token x.within y.within both.1 in
     inr (inr (ap (λ n. Err (A.Unexpected n)) (x.place ∙ ap (place_of tokens) same ∙ sym y.place)))
 one_answer tokens (Err (A.Unexpected at)) (Err (A.TooDeep to)) x y = absurd (two_deep x.shallow y.first)

@@ -9,7 +9,7 @@ use Rattle.spl_tree.specs.declared.token.TokenKind.{TokenKind}
 use Rattle.spl_tree.specs.declared.token.TokenKind.TheVariants as T
 use Rattle.spl_tree.specs.declared.unit.Definition.{Definition}
 use Rattle.spl_tree.specs.declared.unit.Definition.TheVariants as D
-use Rattle.spl_tree.specs.TypeGrammar.{TypeExpr}
+use Rattle.spl_tree.specs.Trees.{TypeExpr}
 use Rattle.spl_tree.specs.declared.unit.HeadPort.{HeadPort}
 use Rattle.expr_parser.specs.declared.stop.Stop.{Stop}
 use Rattle.expr_parser.specs.declared.stop.Stop.TheVariants as S

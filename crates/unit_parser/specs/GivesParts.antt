@@ -15,8 +15,7 @@ use Rattle.spl_tree.specs.declared.unit.Parameter.{Parameter}
 use Rattle.spl_tree.specs.declared.unit.PortWindow.{PortWindow}
 use Rattle.spl_tree.specs.declared.unit.TypeDefinition.{TypeDefinition}
 use Rattle.spl_tree.specs.declared.unit.WindowPart.{WindowPart}
-use Rattle.spl_tree.specs.Grammar.{Expr}
-use Rattle.spl_tree.specs.TypeGrammar.{TypeExpr}
+use Rattle.spl_tree.specs.Trees.{Expr, TypeExpr}
 use Rattle.expr_parser.specs.Rules.{done, stop, look, call}
 use Rattle.expr_parser.specs.Lines as expressions
 use Rattle.statement_parser.specs.Lines.{Name, R, expect, expect_name, expect_word, expression, is_dollar, dollar_at, Alias, Assignments, Expression, InputStreams, PartArguments, Stream, WindowParts, TypeExpression, Inputs, LogicClause, WindowClause, ParameterClause, OutputClause, CompositeParameterClause, Default, TypeClause, GraphClause, FunctionParameters}

@@ -3,8 +3,7 @@ use Rattle.std.specs.Prelude.{◌≡◌, ◌⊎◌, List, Result, Ok, Err}
 use Rattle.spl_tree.specs.declared.token.Token.{Token}
 use Rattle.spl_tree.specs.declared.token.Tokens.{Tokens}
 use Rattle.spl_tree.specs.declared.unit.Definition.{Definition}
-use Rattle.spl_tree.specs.UnitGrammar.{SpellsUnit}
-use Rattle.spl_tree.specs.Units.{IsTooDeepAt, IsUnexpectedAt, IsUnit}
+use Rattle.spl_tree.specs.Units.{IsTooDeepAt, IsUnexpectedAt, IsUnit, SpellsProgram}
 use Rattle.expr_parser.specs.declared.answer.SyntaxAnswer.{SyntaxAnswer}
 use Rattle.expr_parser.specs.declared.answer.SyntaxAnswer.TheVariants as A
 
@@ -17,7 +16,7 @@ ParsesUnit tokens (Err A.Memory) = Unit {0}
 
 -- tokens spell one unit at most
 abbrev pub OneUnitLaw : Type 0
-OneUnitLaw = (x y : List Definition) (a : List Token) → SpellsUnit x a → SpellsUnit y a → x ≡ y
+OneUnitLaw = (x y : List Definition) (a : List Token) → SpellsProgram x a → SpellsProgram y a → x ≡ y
 
 -- lack of memory apart, there is one answer
 abbrev pub OneAnswerLaw : Type 0

@@ -6,7 +6,7 @@ use Rattle.std.proofs.lemmas.List.Elements.{filter_map-append}
 use Rattle.std.proofs.lemmas.Option.{same_Some}
 use Rattle.spl_tree.specs.declared.shape.TypeKind.TheVariants as V
 use Rattle.spl_tree.specs.declared.unit.TypeDefinition.{TypeDefinition}
-use Rattle.spl_tree.specs.TypeGrammar.{TypeExpr}
+use Rattle.spl_tree.specs.Trees.{TypeExpr}
 use Rattle.language_model.specs.Scopes.{At, at_place}
 use Rattle.language_model.specs.TypeNames.{Names, definition_of, type_names}
 use Rattle.language_model.proofs.TypeNameLaws.{kind_names_in, map_names}

@@ -20,8 +20,7 @@ use Rattle.spl_tree.specs.declared.unit.Invocation.{Invocation}
 use Rattle.spl_tree.specs.declared.unit.OutputAssignments.{OutputAssignments}
 use Rattle.spl_tree.specs.declared.unit.OutputStream.{OutputStream}
 use Rattle.spl_tree.specs.declared.unit.PortWindow.{PortWindow}
-use Rattle.spl_tree.specs.Grammar.{Expr, placed}
-use Rattle.spl_tree.specs.StatementGrammar.{Stmt}
+use Rattle.spl_tree.specs.Trees.{Expr, placed, Stmt}
 use Rattle.language_model.specs.declared.scope.CheckError.{CheckError}
 use Rattle.language_model.specs.declared.scope.CheckRefusal.{CheckRefusal}
 use Rattle.language_model.specs.Checking.{checked}

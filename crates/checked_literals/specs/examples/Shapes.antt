@@ -14,8 +14,7 @@ use Rattle.spl_tree.specs.declared.unit.Invocation.{Invocation}
 use Rattle.spl_tree.specs.declared.unit.OutputStream.{OutputStream}
 use Rattle.spl_tree.specs.declared.unit.Parameter.{Parameter}
 use Rattle.spl_tree.specs.declared.unit.WindowPart.{WindowPart}
-use Rattle.spl_tree.specs.Grammar.{Expr, placed}
-use Rattle.spl_tree.specs.TypeGrammar.{TypeExpr}
+use Rattle.spl_tree.specs.Trees.{Expr, placed, TypeExpr}
 use Rattle.language_model.specs.examples.FlatGraphs.{name_at, port_of_names}
 
 -- ---- types

@@ -21,7 +21,7 @@ use Rattle.spl_tree.specs.declared.unit.Invocation.{Invocation}
 use Rattle.spl_tree.specs.declared.unit.OutputAssignments.{OutputAssignments}
 use Rattle.spl_tree.specs.declared.unit.Parameter.{Parameter}
 use Rattle.spl_tree.specs.declared.unit.PortWindow.{PortWindow}
-use Rattle.spl_tree.specs.Grammar.{placed}
+use Rattle.spl_tree.specs.Trees.{placed}
 use Rattle.language_model.specs.declared.checked.CollectedAttribute.{CollectedAttribute}
 use Rattle.language_model.specs.declared.checked.Collector.TheVariants as G
 use Rattle.language_model.specs.declared.checked.CheckedClauses.TheVariants as A

@@ -1,5 +1,5 @@
 -- The files of operators that calls answer, as the definitions see them.
-use Rattle.spl_tree.specs.Grammar.{placed}
+use Rattle.spl_tree.specs.Trees.{placed}
 use Rattle.language_model.specs.SinkFiles.{OpFile}
 use Rattle.duplicate_rules.specs.declared.files.UsedFile.{UsedFile}
 

@@ -3,7 +3,7 @@ use Rattle.std.specs.Prelude.{pos, List, codes, Result}
 use Rattle.spl_value.specs.declared.types.IntKind.TheVariants.{I32}
 use Rattle.spl_value.specs.declared.types.SplType.TheVariants as S
 use Rattle.spl_value.specs.declared.value.Value.TheVariants as V
-use Rattle.spl_tree.specs.Grammar.{Expr, placed}
+use Rattle.spl_tree.specs.Trees.{Expr, placed}
 use Rattle.spl_tree.specs.declared.code.Code.TheVariants as C
 use Rattle.spl_tree.specs.declared.expression.BinaryOperator.TheVariants as B
 use Rattle.spl_tree.specs.declared.expression.ExprKind.TheVariants as E

@@ -5,8 +5,7 @@ use Rattle.spl_tree.specs.declared.keyword.LeftOut.TheVariants as L
 use Rattle.spl_tree.specs.declared.shape.ShapeKind.TheVariants as H
 use Rattle.spl_tree.specs.declared.shape.TypeKind.TheVariants as Y
 use Rattle.spl_tree.specs.declared.unit.TypeDefinition.{TypeDefinition}
-use Rattle.spl_tree.specs.Grammar.{placed}
-use Rattle.spl_tree.specs.TypeGrammar.{TypeExpr}
+use Rattle.spl_tree.specs.Trees.{placed, TypeExpr}
 
 -- a name in a type, at a place
 abbrev pub name_type : ℕ → List ℕ → TypeExpr

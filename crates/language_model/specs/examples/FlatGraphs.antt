@@ -14,8 +14,7 @@ use Rattle.spl_tree.specs.declared.unit.Definition.TheVariants as D
 use Rattle.spl_tree.specs.declared.unit.Invocation.{Invocation}
 use Rattle.spl_tree.specs.declared.unit.InputPort.{InputPort}
 use Rattle.spl_tree.specs.declared.unit.OutputStream.{OutputStream}
-use Rattle.spl_tree.specs.Grammar.{placed}
-use Rattle.spl_tree.specs.TypeGrammar.{Shape}
+use Rattle.spl_tree.specs.Trees.{placed, Shape}
 use Rattle.language_model.specs.Scopes.{At, at_place}
 
 -- ---- parts

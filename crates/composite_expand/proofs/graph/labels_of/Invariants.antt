@@ -1,5 +1,5 @@
 use Rattle.std.proofs.Common.{◌≡◌, map, take}
-use Rattle.spl_tree.specs.Grammar.{placed}
+use Rattle.spl_tree.specs.Trees.{placed}
 use Rattle.composite_expand.proofs.graph.labels_of.Given as goal
 
 abbrev pub invariant-loop-op : goal.invariant-loop-op

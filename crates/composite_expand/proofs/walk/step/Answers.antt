@@ -1,5 +1,5 @@
 use Rattle.std.proofs.Common.{◌∙◌, sym, ap, subst}
-use Rattle.spl_tree.specs.Grammar.{placed}
+use Rattle.spl_tree.specs.Trees.{placed}
 use Rattle.language_model.specs.Invoking.{target_of}
 use Rattle.composite_expand.specs.steps.Invocations.{named}
 use Rattle.composite_expand.specs.steps.Walks.{Refuses}

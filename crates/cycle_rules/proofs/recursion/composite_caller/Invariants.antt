@@ -1,5 +1,5 @@
 use Rattle.std.proofs.Common.{◌≡◌, map, take}
-use Rattle.spl_tree.specs.Grammar.{placed}
+use Rattle.spl_tree.specs.Trees.{placed}
 use Rattle.cycle_rules.specs.steps.Named.{name_seen}
 use Rattle.cycle_rules.proofs.recursion.composite_caller.Given as goal
 

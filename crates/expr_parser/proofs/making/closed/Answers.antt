@@ -1,5 +1,5 @@
 use Rattle.expr_parser.proofs.Derive.{comes_pass_fail, comes_pass, comes_made}
-use Rattle.spl_tree.specs.Grammar.{placed}
+use Rattle.spl_tree.specs.Trees.{placed}
 use Rattle.expr_parser.proofs.making.closed.Goals as goal
 
 pub returns-in-Ok : goal.returns-in-Ok

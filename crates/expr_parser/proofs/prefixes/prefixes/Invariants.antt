@@ -1,5 +1,5 @@
 use Rattle.std.proofs.Common.{[], length}
-use Rattle.spl_tree.specs.Grammar.{Expr}
+use Rattle.spl_tree.specs.Trees.{Expr}
 use Rattle.expr_parser.specs.Rules.{Answer, Reads}
 use Rattle.expr_parser.specs.Lines.{Prefixed, rule}
 use Rattle.expr_parser.proofs.prefixes.prefixes.Given as goal

@@ -1,6 +1,6 @@
 use Rattle.std.proofs.Common.{◌∙◌, [], Err, length, refl, sym, ap, subst, arith}
 use Rattle.spl_tree.specs.declared.expression.ExprKind.TheVariants as X
-use Rattle.spl_tree.specs.Grammar.{Expr, placed}
+use Rattle.spl_tree.specs.Trees.{Expr, placed}
 use Rattle.spl_tree.specs.declared.symbol.Symbol.TheVariants as S
 use Rattle.expr_parser.specs.Rules.{done, Answer, Took, RunsTo, Reads}
 use Rattle.expr_parser.specs.Lines.{binary, Whole, Rest, Climb, Chain, Prefixed, Primary, Group, Named, Elements, Items, Brace, Entries, Fields, Steps, expect, rule, choice_rule, operand_rule, list_rule}

@@ -1,5 +1,5 @@
 use Rattle.std.proofs.Common.{◌+◌, ◌*◌, List, [], length}
-use Rattle.spl_tree.specs.Grammar.{Expr}
+use Rattle.spl_tree.specs.Trees.{Expr}
 use Rattle.expr_parser.specs.Rules.{Answer, Reads}
 use Rattle.expr_parser.specs.Lines.{Chain, Items, Entries, Fields, Steps, rule}
 use Rattle.expr_parser.proofs.reading.+reader.Given as goal

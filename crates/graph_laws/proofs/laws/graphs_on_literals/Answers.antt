@@ -4,7 +4,7 @@ use Rattle.std.specs.List.{Contains}
 use Rattle.std.proofs.Common.{sym, ap, subst, arith, get_or}
 use Rattle.std.proofs.lemmas.Option.{same_Some}
 use Rattle.spl_tree.specs.declared.expression.Placed.{Placed}
-use Rattle.spl_tree.specs.Grammar.{placed}
+use Rattle.spl_tree.specs.Trees.{placed}
 use Rattle.language_model.specs.examples.FlatGraphs.{reversed}
 use Rattle.language_model.specs.Recursion.{IsCall, Leads, directly, through, calls_among, composite_callers}
 use Rattle.graph_laws.proofs.laws.graphs_on_literals.Goals as goal

@@ -9,8 +9,7 @@ use Rattle.spl_tree.specs.declared.shape.Attribute.{Attribute}
 use Rattle.spl_tree.specs.declared.shape.ShapeKind.TheVariants as H
 use Rattle.spl_tree.specs.declared.shape.TypeKind.TheVariants as Y
 use Rattle.spl_tree.specs.declared.unit.TypeDefinition.{TypeDefinition}
-use Rattle.spl_tree.specs.Grammar.{placed}
-use Rattle.spl_tree.specs.TypeGrammar.{TypeExpr}
+use Rattle.spl_tree.specs.Trees.{placed, TypeExpr}
 use Rattle.language_model.specs.Leading.{leads}
 use Rattle.language_model.specs.Scopes.{At, at_place}
 use Rattle.language_laws.specs.examples.TypeNames.{seven_types, name_type, as_shape}

@@ -1,5 +1,5 @@
 use Rattle.std.proofs.Common.{◌∙◌, ◌++◌, ◌∷◌, ap, sym, arith, flat_map}
-use Rattle.spl_tree.specs.Grammar.{placed}
+use Rattle.spl_tree.specs.Trees.{placed}
 use Rattle.language_model.specs.Mentions.{expr_mentions, Called}
 use Rattle.program_tables.specs.steps.MentionParts.{step_mentions}
 use Rattle.program_tables.proofs.Adding.{adds_behind, both_behind}

@@ -2,8 +2,7 @@ use Rattle.std.specs.Prelude.{Bool, Some, None}
 use Rattle.spl_tree.specs.declared.statement.Declaration.{Declaration}
 use Rattle.spl_tree.specs.declared.symbol.Symbol.TheVariants as S
 use Rattle.spl_tree.specs.declared.token.Token.{Token}
-use Rattle.spl_tree.specs.Grammar.{Expr}
-use Rattle.spl_tree.specs.TypeGrammar.{TypeExpr}
+use Rattle.spl_tree.specs.Trees.{Expr, TypeExpr}
 use Rattle.std.proofs.Common.{List}
 use Rattle.expr_parser.specs.Rules.{done, Answer, RunsTo, Reads}
 use Rattle.statement_parser.proofs.Readings.{finished, reads, taken, skipped, fails}

@@ -2,8 +2,7 @@ use Rattle.std.specs.Prelude.{ℕ, Bool, true, Some, None}
 use Rattle.expr_parser.specs.Rules.{done}
 use Rattle.spl_tree.specs.declared.statement.StmtKind.TheVariants as Z
 use Rattle.spl_tree.specs.declared.symbol.Symbol.TheVariants as S
-use Rattle.spl_tree.specs.Grammar.{Expr, placed}
-use Rattle.spl_tree.specs.StatementGrammar.{Stmt}
+use Rattle.spl_tree.specs.Trees.{Expr, placed, Stmt}
 use Rattle.statement_parser.specs.Lines as lines
 use Rattle.statement_parser.specs.Lines.{R, expression_before}
 use Rattle.statement_parser.proofs.Readings.{taken, skipped, rule_on, rule_fails}

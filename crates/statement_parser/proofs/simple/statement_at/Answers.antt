@@ -1,6 +1,6 @@
 use Rattle.std.proofs.Common.{Ok, sym, subst}
 use Rattle.expr_parser.specs.Rules.{done}
-use Rattle.spl_tree.specs.Grammar.{placed}
+use Rattle.spl_tree.specs.Trees.{placed}
 use Rattle.statement_parser.specs.Gives.{Comes}
 use Rattle.statement_parser.proofs.Readings.{finished}
 use Rattle.statement_parser.proofs.simple.statement_at.Goals as goal

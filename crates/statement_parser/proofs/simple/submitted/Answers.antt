@@ -1,8 +1,7 @@
 use Rattle.std.specs.Prelude.{ℕ, Bool}
 use Rattle.spl_tree.specs.declared.statement.StmtKind.TheVariants as Z
 use Rattle.spl_tree.specs.declared.symbol.Symbol.TheVariants as S
-use Rattle.spl_tree.specs.Grammar.{Expr}
-use Rattle.spl_tree.specs.StatementGrammar.{Stmt}
+use Rattle.spl_tree.specs.Trees.{Expr, Stmt}
 use Rattle.statement_parser.specs.Lines as lines
 use Rattle.statement_parser.specs.Lines.{Name, R, expression_between, name_before}
 use Rattle.statement_parser.proofs.Readings.{rule_on, rule_fails}

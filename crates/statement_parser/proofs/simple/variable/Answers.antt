@@ -1,7 +1,7 @@
 use Rattle.std.specs.Prelude.{true, false}
 use Rattle.expr_parser.specs.Rules.{done, call}
 use Rattle.spl_tree.specs.declared.statement.StmtKind.TheVariants as Z
-use Rattle.spl_tree.specs.Grammar.{placed}
+use Rattle.spl_tree.specs.Trees.{placed}
 use Rattle.statement_parser.specs.Lines as lines
 use Rattle.statement_parser.specs.Lines.{R, TypeExpression, Declared}
 use Rattle.statement_parser.proofs.Readings.{line_read, rule_on, rule_fails, line_fails}

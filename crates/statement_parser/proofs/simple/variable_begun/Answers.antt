@@ -3,7 +3,7 @@ use Rattle.std.proofs.Common.{Err, subst}
 use Rattle.expr_parser.specs.Rules.{done, Took, Reads}
 use Rattle.spl_tree.specs.declared.shape.TypeKind.TheVariants as Y
 use Rattle.spl_tree.specs.declared.statement.StmtKind.TheVariants as Z
-use Rattle.spl_tree.specs.Grammar.{placed}
+use Rattle.spl_tree.specs.Trees.{placed}
 use Rattle.statement_parser.specs.Gives.{Gives}
 use Rattle.statement_parser.specs.GivesStatements as statements
 use Rattle.statement_parser.specs.Lines.{Valued, rule}

@@ -3,9 +3,7 @@ use Rattle.expr_parser.specs.Rules.{done, call, Answer, Took, RunsTo, Reads}
 use Rattle.spl_tree.specs.declared.shape.Attribute.{Attribute}
 use Rattle.spl_tree.specs.declared.statement.StmtKind.TheVariants as Z
 use Rattle.spl_tree.specs.declared.token.Token.{Token}
-use Rattle.spl_tree.specs.Grammar.{Expr, placed}
-use Rattle.spl_tree.specs.StatementGrammar.{Stmt}
-use Rattle.spl_tree.specs.TypeGrammar.{TypeExpr}
+use Rattle.spl_tree.specs.Trees.{Expr, placed, Stmt, TypeExpr}
 use Rattle.statement_parser.specs.GivesStatements as parts
 use Rattle.statement_parser.specs.Lines as lines
 use Rattle.statement_parser.specs.Lines.{R, Statement, Statements, Other, Begun, Arms, rule}

@@ -1,5 +1,5 @@
 use Rattle.std.proofs.Common.{◌+◌, ◌*◌, Bool, List, [], length}
-use Rattle.spl_tree.specs.StatementGrammar.{Stmt}
+use Rattle.spl_tree.specs.Trees.{Stmt}
 use Rattle.expr_parser.specs.Rules.{Answer, Reads}
 use Rattle.statement_parser.specs.Lines.{Arms, Statements, rule}
 use Rattle.statement_parser.proofs.statements.+statements.Given as goal

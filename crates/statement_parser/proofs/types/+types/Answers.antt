@@ -1,8 +1,7 @@
 use Rattle.std.proofs.Common.{ℕ, Ok, ◌∙◌, [], ◌∷◌, ◌++◌, ap, subst, arith}
 use Rattle.spl_tree.specs.declared.shape.TypeKind.TheVariants as Y
 use Rattle.spl_tree.specs.declared.symbol.Symbol.TheVariants as S
-use Rattle.spl_tree.specs.Grammar.{placed}
-use Rattle.spl_tree.specs.TypeGrammar.{TypeExpr}
+use Rattle.spl_tree.specs.Trees.{placed, TypeExpr}
 use Rattle.expr_parser.specs.Rules.{done, call, RunsTo, Reads}
 use Rattle.expr_parser.specs.RuleLaws.{runs_stop}
 use Rattle.statement_parser.proofs.Readings.{finished, reads, taken, taken_as, skipped, passed, line_read, says_on, rule_on, fails, rule_fails, pass_fails, line_fails}

@@ -1,6 +1,6 @@
 use Rattle.std.proofs.Common.{◌+◌, ◌*◌, List, length}
 use Rattle.spl_tree.specs.declared.shape.Attribute.{Attribute}
-use Rattle.spl_tree.specs.TypeGrammar.{TypeExpr}
+use Rattle.spl_tree.specs.Trees.{TypeExpr}
 use Rattle.expr_parser.specs.Rules.{Answer, Reads}
 use Rattle.statement_parser.specs.Lines.{MoreAttributes, rule}
 use Rattle.statement_parser.proofs.types.+types.Given as goal

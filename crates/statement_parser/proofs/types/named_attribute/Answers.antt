@@ -1,6 +1,6 @@
 use Rattle.expr_parser.specs.Rules.{done}
 use Rattle.spl_tree.specs.declared.shape.Attribute.{Attribute}
-use Rattle.spl_tree.specs.TypeGrammar.{TypeExpr}
+use Rattle.spl_tree.specs.Trees.{TypeExpr}
 use Rattle.statement_parser.specs.Lines as lines
 use Rattle.statement_parser.specs.Lines.{Name, R}
 use Rattle.statement_parser.proofs.Readings.{finished, name_passed, rule_fails, name_fails}

@@ -1,6 +1,6 @@
 use Rattle.std.proofs.Common.{[], ◌∷◌, ◌++◌, ◌∙◌, Err, ap, subst}
 use Rattle.spl_tree.specs.declared.shape.ShapeKind.TheVariants as H
-use Rattle.spl_tree.specs.Grammar.{placed}
+use Rattle.spl_tree.specs.Trees.{placed}
 use Rattle.expr_parser.specs.Rules.{done, Took, Reads}
 use Rattle.statement_parser.proofs.Readings.{finished, line_read, rule_fails, line_fails}
 use Rattle.statement_parser.specs.Gives.{Gives}

@@ -2,8 +2,7 @@ use Rattle.std.proofs.Common.{[], ◌∷◌, ◌≡◌, false, true≢false, Opt
 use Rattle.std.specs.Prelude.{MatchOption, is_some}
 use Rattle.spl_tree.specs.declared.symbol.Symbol.{Symbol}
 use Rattle.spl_tree.specs.declared.shape.ShapeKind.TheVariants as H
-use Rattle.spl_tree.specs.Grammar.{placed}
-use Rattle.spl_tree.specs.TypeGrammar.{TypeExpr, Shape}
+use Rattle.spl_tree.specs.Trees.{placed, TypeExpr, Shape}
 use Rattle.expr_parser.specs.Lines.{is_name}
 use Rattle.expr_parser.specs.RuleLaws.{begins_with}
 use Rattle.expr_parser.specs.Rules.{done, call}

@@ -1,7 +1,7 @@
 use Rattle.std.proofs.Common.{List, subst, arith, [], ◌∷◌, ◌++◌}
 use Rattle.spl_tree.specs.declared.symbol.Symbol.TheVariants as S
 use Rattle.spl_tree.specs.declared.expression.Field.{Field}
-use Rattle.spl_tree.specs.Grammar.{Expr}
+use Rattle.spl_tree.specs.Trees.{Expr}
 use Rattle.expr_parser.specs.Lines as expressions
 use Rattle.expr_parser.specs.Rules.{done, look, call, RunsTo, Reads}
 use Rattle.unit_parser.specs.GivesParts.{assignment}

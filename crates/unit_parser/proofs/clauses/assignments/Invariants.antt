@@ -1,6 +1,6 @@
 use Rattle.std.proofs.Common.{List, [], length}
 use Rattle.spl_tree.specs.declared.expression.Field.{Field}
-use Rattle.spl_tree.specs.Grammar.{Expr}
+use Rattle.spl_tree.specs.Trees.{Expr}
 use Rattle.expr_parser.specs.Rules.{Answer, Reads}
 use Rattle.statement_parser.specs.Lines.{Assignments, rule}
 use Rattle.unit_parser.proofs.clauses.assignments.Given as goal

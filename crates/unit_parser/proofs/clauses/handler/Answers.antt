@@ -3,7 +3,7 @@ use Rattle.spl_tree.specs.declared.expression.Placed.{Placed}
 use Rattle.spl_tree.specs.declared.symbol.Symbol.TheVariants as S
 use Rattle.spl_tree.specs.declared.unit.Handler.{Handler}
 use Rattle.spl_tree.specs.declared.unit.HandledEvent.{HandledEvent}
-use Rattle.spl_tree.specs.Grammar.{placed}
+use Rattle.spl_tree.specs.Trees.{placed}
 use Rattle.expr_parser.specs.Rules.{done, call}
 use Rattle.statement_parser.specs.Lines.{Name, R, name_before}
 use Rattle.statement_parser.specs.Lines as lines

@@ -1,6 +1,6 @@
 use Rattle.spl_tree.specs.declared.symbol.Symbol.TheVariants as S
 use Rattle.spl_tree.specs.declared.unit.CompositeParameter.{CompositeParameter}
-use Rattle.spl_tree.specs.TypeGrammar.{TypeExpr}
+use Rattle.spl_tree.specs.Trees.{TypeExpr}
 use Rattle.expr_parser.specs.Rules.{done, stop, look, call, RunsTo, Reads}
 use Rattle.statement_parser.proofs.Readings.{dollar_passed, says_on, rule_fails, dollar_fails}
 use Rattle.statement_parser.proofs.StatementReadings.{part_read, part_fails}

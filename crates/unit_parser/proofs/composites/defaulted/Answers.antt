@@ -2,8 +2,7 @@ use Rattle.std.specs.Prelude.{Some, None}
 use Rattle.expr_parser.specs.Rules.{done}
 use Rattle.spl_tree.specs.declared.symbol.Symbol.TheVariants as S
 use Rattle.spl_tree.specs.declared.unit.CompositeParameter.{CompositeParameter}
-use Rattle.spl_tree.specs.Grammar.{Expr}
-use Rattle.spl_tree.specs.TypeGrammar.{TypeExpr}
+use Rattle.spl_tree.specs.Trees.{Expr, TypeExpr}
 use Rattle.statement_parser.proofs.Readings.{finished, reads, taken, skipped, fails}
 use Rattle.statement_parser.proofs.StatementReadings.{part_read, part_fails}
 use Rattle.statement_parser.proofs.TypeReadings.{goes}

@@ -1,6 +1,6 @@
 use Rattle.spl_tree.specs.declared.symbol.Symbol.TheVariants as S
 use Rattle.spl_tree.specs.declared.unit.OutputStream.{OutputStream}
-use Rattle.spl_tree.specs.TypeGrammar.{Shape}
+use Rattle.spl_tree.specs.Trees.{Shape}
 use Rattle.expr_parser.specs.Rules.{done}
 use Rattle.statement_parser.specs.Lines.{Name, R}
 use Rattle.statement_parser.specs.Lines as lines

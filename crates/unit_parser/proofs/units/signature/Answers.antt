@@ -2,7 +2,7 @@ use Rattle.std.specs.Prelude.{List}
 use Rattle.expr_parser.specs.Rules.{done, call}
 use Rattle.spl_tree.specs.declared.shape.Attribute.{Attribute}
 use Rattle.spl_tree.specs.declared.symbol.Symbol.TheVariants as S
-use Rattle.spl_tree.specs.TypeGrammar.{TypeExpr}
+use Rattle.spl_tree.specs.Trees.{TypeExpr}
 use Rattle.statement_parser.proofs.Readings.{finished, line_read, rule_fails, line_fails}
 use Rattle.statement_parser.proofs.StatementReadings.{part_read, part_fails}
 use Rattle.unit_parser.specs.GivesParts.{signature}

@@ -1,6 +1,6 @@
 use Rattle.std.specs.Prelude.{◌≡◌, ◌≤◌, ℕ, List, [], ◌∷◌, length, Result, get_or}
 use Rattle.std.proofs.Common.{subst, arith}
-use Rattle.spl_tree.specs.Grammar.{Expr}
+use Rattle.spl_tree.specs.Trees.{Expr}
 use Rattle.language_model.specs.declared.answer.TypeAnswer.{TypeAnswer}
 use Rattle.language_model.specs.declared.checked.ParameterValue.{ParameterValue}
 use Rattle.language_model.specs.Finds.{Finds}

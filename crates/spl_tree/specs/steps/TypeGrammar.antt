@@ -1,24 +1,16 @@
--- Which tokens spell a type, attributes and a shape. Each constructor is a line of the grammar.
+-- Which tokens spell a type, attributes and a shape, by a relation for each kind of phrase.
 use Rattle.std.specs.Prelude.{ℕ, List, [], ◌∷◌, ◌++◌}
 use Rattle.spl_value.specs.declared.types.IntKind.{IntKind}
-use Rattle.spl_tree.specs.declared.expression.Placed.{Placed}
 use Rattle.spl_tree.specs.declared.keyword.Keyword.TheVariants as K
 use Rattle.spl_tree.specs.declared.keyword.LeftOut.{LeftOut}
 use Rattle.spl_tree.specs.declared.shape.Attribute.{Attribute}
-use Rattle.spl_tree.specs.declared.shape.ShapeKind.{ShapeKind}
 use Rattle.spl_tree.specs.declared.shape.ShapeKind.TheVariants as H
-use Rattle.spl_tree.specs.declared.shape.TypeKind.{TypeKind}
 use Rattle.spl_tree.specs.declared.shape.TypeKind.TheVariants as Y
 use Rattle.spl_tree.specs.declared.symbol.Symbol.TheVariants as S
 use Rattle.spl_tree.specs.declared.token.Token.{Token}
-use Rattle.spl_tree.specs.Grammar.{placed, Is, Names}
-use Rattle.spl_tree.specs.Phrases.{IsKeyword}
-
-abbrev pub TypeExpr : Type 0
-TypeExpr = Placed TypeKind
-
-abbrev pub Shape : Type 0
-Shape = Placed ShapeKind
+use Rattle.spl_tree.specs.Trees.{TypeExpr, Shape, placed}
+use Rattle.spl_tree.specs.steps.Grammar.{Is, Names}
+use Rattle.spl_tree.specs.steps.Phrases.{IsKeyword}
 
 -- a type, and the name of what is of it
 abbrev pub named : TypeExpr → Token → List ℕ → Attribute TypeExpr

@@ -1,39 +1,18 @@
--- Which tokens spell a statement. Each constructor is a line of the grammar. A statement is placed at its first token.
+-- Which tokens spell a statement, by a relation for each kind of phrase.
 use Rattle.std.specs.Prelude.{◌≡◌, ℕ, Bool, true, false, List, [], ◌∷◌, ◌++◌, Option, Some, None}
 use Rattle.spl_tree.specs.declared.expression.BinaryOperator.{BinaryOperator}
-use Rattle.spl_tree.specs.declared.expression.BinaryOperator.TheVariants as B
 use Rattle.spl_tree.specs.declared.expression.ExprKind.TheVariants as X
-use Rattle.spl_tree.specs.declared.expression.Placed.{Placed}
 use Rattle.spl_tree.specs.declared.expression.Step.{Step}
 use Rattle.spl_tree.specs.declared.keyword.Keyword.TheVariants as K
 use Rattle.spl_tree.specs.declared.statement.Declaration.{Declaration}
-use Rattle.spl_tree.specs.declared.statement.StmtKind.{StmtKind}
 use Rattle.spl_tree.specs.declared.statement.StmtKind.TheVariants as Z
-use Rattle.spl_tree.specs.declared.symbol.Symbol.{Symbol}
 use Rattle.spl_tree.specs.declared.symbol.Symbol.TheVariants as S
 use Rattle.spl_tree.specs.declared.token.Token.{Token}
-use Rattle.spl_tree.specs.declared.token.TokenKind.{TokenKind}
-use Rattle.spl_tree.specs.declared.token.TokenKind.TheVariants as T
-use Rattle.spl_tree.specs.Grammar.{Expr, placed, Is, Names, Elements, Steps, Spells}
-use Rattle.spl_tree.specs.Phrases.{IsKeyword}
-use Rattle.spl_tree.specs.TypeGrammar.{TypeExpr, named, SpellsType}
-
-abbrev pub Stmt : Type 0
-Stmt = Placed StmtKind
-
--- the operator of an assignment that a symbol is, if it is one: none for `=`
-abbrev pub assignment_symbol : Symbol → Option (Option BinaryOperator)
-assignment_symbol S.Assign = Some None
-assignment_symbol S.PlusAssign = Some (Some B.Add)
-assignment_symbol S.MinusAssign = Some (Some B.Subtract)
-assignment_symbol S.StarAssign = Some (Some B.Multiply)
-assignment_symbol S.SlashAssign = Some (Some B.Divide)
-assignment_symbol S.PercentAssign = Some (Some B.Remainder)
-assignment_symbol _ = None
-
-abbrev pub assignment_of : TokenKind → Option (Option BinaryOperator)
-assignment_of (T.Symbol s) = assignment_symbol s
-assignment_of _ = None
+use Rattle.spl_tree.specs.Trees.{Expr, Stmt, TypeExpr, IsNoIf, placed}
+use Rattle.spl_tree.specs.Operators.{assignment_of}
+use Rattle.spl_tree.specs.steps.Grammar.{Is, Names, Elements, Steps, Spells}
+use Rattle.spl_tree.specs.steps.Phrases.{IsKeyword}
+use Rattle.spl_tree.specs.steps.TypeGrammar.{named, SpellsType}
 
 -- a name, and the members and elements that are taken of it
 pub data SpellsPlace : Expr → List Token → Type 0 where
@@ -67,10 +46,6 @@ pub data SpellsReturned : Option Expr → List Token → Type 0 where
 -- the place of the first of these tokens
 pub data BeginsAt : ℕ → List Token → Type 0 where
   begins : (t : Token) (a : List Token) → BeginsAt t.start (t ∷ a)
-
--- a statement is no `if`
-abbrev pub IsNoIf : Stmt → Type 0
-IsNoIf s = (arms : List (Expr × Stmt)) (other : Option Stmt) → s.what ≡ Z.If arms other → ⊥
 
 mutual
   -- a statement. It is closed where an `else` after it would belong to none of its own `if`.

@@ -1,10 +1,10 @@
--- Parts of which the lines of the grammar are made.
+-- Parts of which these relations are made.
 use Rattle.std.specs.Prelude.{◌≡◌, List, [], ◌∷◌, ◌++◌}
 use Rattle.spl_tree.specs.declared.symbol.Symbol.{Symbol}
 use Rattle.spl_tree.specs.declared.keyword.Keyword.{Keyword}
 use Rattle.spl_tree.specs.declared.token.Token.{Token}
 use Rattle.spl_tree.specs.declared.token.TokenKind.TheVariants as T
-use Rattle.spl_tree.specs.Grammar.{Is}
+use Rattle.spl_tree.specs.steps.Grammar.{Is}
 
 -- the token is that reserved word
 abbrev pub IsKeyword : Keyword → Token → Type 0

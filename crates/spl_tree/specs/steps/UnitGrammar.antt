@@ -1,4 +1,4 @@
--- Which tokens spell a program, with all that it declares. Each constructor is a line of the grammar.
+-- Which tokens spell a program, with all that it declares, by a relation for each kind of phrase.
 use Rattle.std.specs.Prelude.{◌≡◌, ℕ, List, [], ◌∷◌, ◌++◌, Option, Some, None}
 use Rattle.spl_tree.specs.declared.expression.Field.{Field}
 use Rattle.spl_tree.specs.declared.expression.Placed.{Placed}
@@ -28,10 +28,11 @@ use Rattle.spl_tree.specs.declared.unit.PortWindow.{PortWindow}
 use Rattle.spl_tree.specs.declared.unit.OutputAssignments.{OutputAssignments}
 use Rattle.spl_tree.specs.declared.unit.TypeDefinition.{TypeDefinition}
 use Rattle.spl_tree.specs.declared.unit.WindowPart.{WindowPart}
-use Rattle.spl_tree.specs.Grammar.{Expr, placed, Is, Names, Elements, Items, Fields, Spells}
-use Rattle.spl_tree.specs.Phrases.{IsKeyword, Phrase, Row, Separated, Listed}
-use Rattle.spl_tree.specs.StatementGrammar.{Stmt, SpellsDeclaration, SpellsBlock, BeginsAt}
-use Rattle.spl_tree.specs.TypeGrammar.{TypeExpr, Shape, SpellsType, SpellsShape, SpellsFunctionParameters}
+use Rattle.spl_tree.specs.Trees.{Expr, placed, Stmt, TypeExpr, Shape}
+use Rattle.spl_tree.specs.steps.Grammar.{Is, Names, Elements, Items, Fields, Spells}
+use Rattle.spl_tree.specs.steps.Phrases.{IsKeyword, Phrase, Row, Separated, Listed}
+use Rattle.spl_tree.specs.steps.StatementGrammar.{SpellsDeclaration, SpellsBlock, BeginsAt}
+use Rattle.spl_tree.specs.steps.TypeGrammar.{SpellsType, SpellsShape, SpellsFunctionParameters}
 
 -- ---- parts
 

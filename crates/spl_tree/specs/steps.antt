@@ -1,0 +1,5 @@
+pub mod Grammar
+pub mod Phrases
+pub mod TypeGrammar
+pub mod StatementGrammar
+pub mod UnitGrammar
