@@ -1,8 +1,9 @@
 -- The names in a unit that tokens spell are words, so those of operators are words with dots between them.
-use Rattle.std.specs.Prelude.{◌≡◌, ◌==◌, ℕ, zero, suc, nat_lt, is_some, Bool, true, false, List, [], ◌∷◌, ◌++◌, codes, fold, Option, Some, None, Result, Ok, Err, slice_get, if◌then◌else◌}
+use Rattle.std.specs.Prelude.{◌≡◌, ◌==◌, ℕ, zero, suc, nat_lt, Bool, true, false, List, [], ◌∷◌, ◌++◌, codes, fold, Option, Some, None, Result, Ok, Err, slice_get, if◌then◌else◌}
 use Rattle.std.specs.List.{AllByRecursion}
-use Rattle.std.specs.Option.{option_and_then}
-use Rattle.std.proofs.Common.{sym, ap, subst, ◌∙◌, append_assoc}
+use Rattle.std.specs.Bool.{then_some}
+use Rattle.std.specs.Option.{option_and_then, option_map}
+use Rattle.std.proofs.Common.{refl, sym, ap, subst, ◌∙◌, append_assoc}
 use Rattle.std.proofs.lemmas.Option.{same_Some}
 use Rattle.spl_value.proofs.Lists.{all_left, all_right, push_some, all_at, all_more}
 use Rattle.spl_value.specs.declared.types.IntKind.{IntKind}
@@ -29,11 +30,12 @@ use Rattle.spl_tree.specs.Trees.{placed}
 use Rattle.spl_tree.specs.Laws.{Cut, done, gap, token}
 use Rattle.spl_tree.specs.steps.Phrases as P
 use Rattle.spl_tree.specs.steps.Phrases.{Row, Separated}
-use Rattle.spl_tree.specs.Tokens.{Refusal, is_word, word_kind, digits, suffix, suffix_kind, number_kind, unescaped, between_quotes, text_kind, symbol_kind, ends_text, is_formed, kind_of}
+use Rattle.spl_tree.specs.Tokens.{Refusal, is_word, word_kind, digits, suffix, suffix_kind, number_kind, unescaped, between_quotes, text_kind, ends_text, kind_of}
 use Rattle.spl_tree.specs.steps.UnitGrammar as U
 use Rattle.spl_tree.specs.steps.UnitGrammar.{SpellsAlias, SpellsComposite, SpellsDefinition, SpellsHead, SpellsInvocation, SpellsOutputStream, SpellsUnit}
 use Rattle.spl_tree.specs.Words.{keyword_of, symbol_of}
 use Rattle.spl_tree.proofs.CutLaws.{cut_law}
+use Rattle.spl_tree.proofs.TokenLaws.{kind_in}
 use Rattle.language_model.specs.Composites.{composites}
 use Rattle.language_model.specs.DollarTargets.{composite_of, invocation_at}
 use Rattle.grammar_laws.proofs.FromLines.{unit_from_lines}
@@ -59,9 +61,8 @@ by_keyword : (text : List ℕ) (o : Option Keyword) (k : TokenKind) → lexed (w
 by_keyword text None k e formed n is = let same : T.Word text ≡ T.Word n = (let h : lexed (T.Word text) ≡ lexed k = e in cc) in let words : text ≡ n = cc in ap is_word (sym words) ∙ formed
 by_keyword text (Some w) k e formed n is = absurd (let h : lexed (T.Keyword w) ≡ lexed k = e in let same : T.Keyword w ≡ T.Word n = cc in cc)
 
-no_number : (n : ℕ) (o : Option IntKind) (k : TokenKind) → number_kind n o ≡ lexed k → IsWordIn k
-no_number n None k e w is = absurd cc
-no_number n (Some i) k e w is =
+no_number : (n : ℕ) (i : IntKind) (k : TokenKind) → number_kind n i ≡ lexed k → IsWordIn k
+no_number n i k e w is =
     elim (nat_lt n (top i)) as (λ b. (if b then lexed (T.Number (record { kind = i; value = n })) else bad_number) ≡ lexed k → is_word w ≡ true) [
       | true ↦ λ h. absurd (let same : T.Number (record { kind = i; value = n }) ≡ T.Word w = cc in cc)
       | false ↦ λ h. absurd cc
@@ -71,34 +72,40 @@ no_text : (r : Result (List ℕ) ℕ) (k : TokenKind) → text_kind r ≡ lexed 
 no_text (Ok bs) k e w is = absurd (let same : T.Text bs ≡ T.Word w = cc in cc)
 no_text (Err at) k e w is = absurd cc
 
-no_symbol : (o : Option Symbol) (k : TokenKind) → symbol_kind o ≡ lexed k → IsWordIn k
-no_symbol (Some s) k e w is = absurd (let same : T.Symbol s ≡ T.Word w = cc in cc)
-no_symbol None k e w is = absurd cc
+-- what has the form of a token is no word where what is made of it is none
+no_form : {A : Type 0} (f : A → Result TokenKind Refusal) (o : Option A) (k : TokenKind) → ((x : A) → f x ≡ lexed k → IsWordIn k)
+    → kind_in (option_map f o) ≡ lexed k → IsWordIn k
+no_form f None k each e = absurd cc
+no_form f (Some x) k each e = each x e
 
-word_in : (text : List ℕ) (k : TokenKind) → is_formed text ≡ true → kind_of text ≡ lexed k → IsWordIn k
-word_in [] k formed e = absurd cc
-word_in (b ∷ bs) k formed e =
-    elim (is_letter b)
-    as (λ l. (if l then is_word (b ∷ bs) else (if is_digit b then is_some (suffix_kind (suffix (b ∷ bs))) else (if b == 36 then is_word bs else (if is_quote b then ends_text b false bs else is_some (symbol_of (b ∷ bs)))))) ≡ true
-    → (if l then lexed (word_kind (b ∷ bs) (keyword_of (b ∷ bs))) else (if is_digit b then number_kind (fold digit_step 0 (digits (b ∷ bs))) (suffix_kind (suffix (b ∷ bs))) else (if b == 36 then lexed (T.Dollar bs) else (if is_quote b then text_kind (unescaped 1 (between_quotes (b ∷ bs))) else symbol_kind (symbol_of (b ∷ bs)))))) ≡ lexed k
-    → IsWordIn k) [
-      | true ↦ λ whole is. by_keyword (b ∷ bs) (keyword_of (b ∷ bs)) k is whole
-      | false ↦ λ whole is. by_digit (is_digit b) is
-    ] formed e
+no_dollar : (text : List ℕ) (k : TokenKind) → lexed (T.Dollar text) ≡ lexed k → IsWordIn k
+no_dollar text k e w is = absurd (let same : T.Dollar text ≡ T.Word w = cc in cc)
+
+no_symbol : (s : Symbol) (k : TokenKind) → lexed (T.Symbol s) ≡ lexed k → IsWordIn k
+no_symbol s k e w is = absurd (let same : T.Symbol s ≡ T.Word w = cc in cc)
+
+word_in : (text : List ℕ) (k : TokenKind) → kind_of text ≡ lexed k → IsWordIn k
+word_in [] k e = absurd cc
+word_in (b ∷ bs) k e = by (is_letter b) (is_digit b) (b == 36) (is_quote b) e
   where
-    by_quote : (q : Bool) → (if q then text_kind (unescaped 1 (between_quotes (b ∷ bs))) else symbol_kind (symbol_of (b ∷ bs))) ≡ lexed k → IsWordIn k
-    by_quote true is = no_text (unescaped 1 (between_quotes (b ∷ bs))) k is
-    by_quote false is = no_symbol (symbol_of (b ∷ bs)) k is
+    by_word : (t : Bool) → is_word (b ∷ bs) ≡ t → kind_in (option_map (λ text. lexed (word_kind text (keyword_of text))) (then_some t (b ∷ bs))) ≡ lexed k → IsWordIn k
+    by_word true whole is = by_keyword (b ∷ bs) (keyword_of (b ∷ bs)) k is whole
+    by_word false whole is = absurd cc
 
-    by_dollar : (d : Bool) → (if d then lexed (T.Dollar bs) else (if is_quote b then text_kind (unescaped 1 (between_quotes (b ∷ bs))) else symbol_kind (symbol_of (b ∷ bs)))) ≡ lexed k → IsWordIn k
-    by_dollar true is = λ w same. absurd (let h : T.Dollar bs ≡ T.Word w = (let g : lexed (T.Dollar bs) ≡ lexed k = is in cc) in cc)
-    by_dollar false is = by_quote (is_quote b) is
-
-    by_digit : (d : Bool)
-        → (if d then number_kind (fold digit_step 0 (digits (b ∷ bs))) (suffix_kind (suffix (b ∷ bs))) else (if b == 36 then lexed (T.Dollar bs) else (if is_quote b then text_kind (unescaped 1 (between_quotes (b ∷ bs))) else symbol_kind (symbol_of (b ∷ bs))))) ≡ lexed k
+    by : (letter digit dollar quote : Bool)
+        → kind_in (if letter then option_map (λ text. lexed (word_kind text (keyword_of text))) (then_some (is_word (b ∷ bs)) (b ∷ bs))
+        else (if digit then option_map (number_kind (fold digit_step 0 (digits (b ∷ bs)))) (suffix_kind (suffix (b ∷ bs)))
+        else (if dollar then option_map (λ text. lexed (T.Dollar text)) (then_some (is_word bs) bs)
+        else (if quote then option_map (λ text. text_kind (unescaped 1 (between_quotes text))) (then_some (ends_text b false bs) (b ∷ bs))
+        else option_map (λ s. lexed (T.Symbol s)) (symbol_of (b ∷ bs)))))) ≡ lexed k
         → IsWordIn k
-    by_digit true is = no_number (fold digit_step 0 (digits (b ∷ bs))) (suffix_kind (suffix (b ∷ bs))) k is
-    by_digit false is = by_dollar (b == 36) is
+    by true digit dollar quote is = by_word (is_word (b ∷ bs)) refl is
+    by false true dollar quote is =
+        no_form (number_kind (fold digit_step 0 (digits (b ∷ bs)))) (suffix_kind (suffix (b ∷ bs))) k (λ i. no_number (fold digit_step 0 (digits (b ∷ bs))) i k) is
+    by false false true quote is = no_form (λ text. lexed (T.Dollar text)) (then_some (is_word bs) bs) k (λ text. no_dollar text k) is
+    by false false false true is =
+        no_form (λ text. text_kind (unescaped 1 (between_quotes text))) (then_some (ends_text b false bs) (b ∷ bs)) k (λ text. no_text (unescaped 1 (between_quotes text)) k) is
+    by false false false false is = no_form (λ s. lexed (T.Symbol s)) (symbol_of (b ∷ bs)) k (λ s. no_symbol s k) is
 
 abbrev IsWordToken : Token → Type 0
 IsWordToken t = IsWordIn t.kind
@@ -109,7 +116,7 @@ AreWords ts = AllByRecursion IsWordToken ts
 cut_words : (at : ℕ) (bytes : List ℕ) (ts : List Token) → Cut at bytes ts → AreWords ts
 cut_words at bytes ts (done a) = tt
 cut_words at bytes ts (gap a text rest us g c) = cut_words _ rest us c
-cut_words at bytes ts (token a kind text rest us t c) = (word_in text kind t.formed t.is, cut_words _ rest us c)
+cut_words at bytes ts (token a kind text rest us t c) = (word_in text kind t.is, cut_words _ rest us c)
 
 -- ---- invocations
 

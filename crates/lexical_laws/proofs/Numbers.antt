@@ -1,5 +1,5 @@
 -- Numbers that exceed their type or run into a word.
-use Rattle.std.proofs.Common.{◌≡◌, ◌∙◌, ℕ, zero, suc, ◌+◌, ◌-◌, ◌*◌, ◌<◌, ◌≤◌, ◌==◌, ◌&&◌, nat_lt, Bool, true, false, cond, List, [], ◌∷◌, ◌++◌, length, take, drop, fold, Option, Some, None, is_some, Result, Ok, Err, refl, sym, ap, ap₂, subst, true≢false, arith, append_assoc, append-nil, take-append-drop, lt-ltb, ltb-true, one-add}
+use Rattle.std.proofs.Common.{◌≡◌, ◌∙◌, ℕ, zero, suc, ◌+◌, ◌-◌, ◌*◌, ◌<◌, ◌≤◌, ◌==◌, ◌&&◌, nat_lt, Bool, true, false, cond, List, [], ◌∷◌, ◌++◌, length, take, drop, fold, Option, Some, None, is_some, Result, Ok, Err, refl, sym, ap, ap₂, subst, true≢false, arith, append_assoc, append-nil, take-append-drop, lt-ltb, ltb-true}
 use Rattle.std.proofs.Math.Seq.{take-append_seam, drop-append_seam}
 use Rattle.std.specs.List.{list_all, prefix_len}
 use Rattle.std.proofs.lemmas.Bool.{and_parts, and_right, eqb-true, false_from_ne_true}
@@ -14,16 +14,16 @@ use Rattle.spl_tree.specs.declared.token.TokenKind.{TokenKind}
 use Rattle.spl_tree.specs.declared.token.TokenKind.TheVariants as T
 use Rattle.spl_tree.specs.declared.token.LexicalError.{LexicalError}
 use Rattle.spl_tree.specs.declared.token.LexicalError.TheVariants as E
-use Rattle.spl_tree.specs.Bytes.{is_letter, is_word_byte, begins}
+use Rattle.spl_tree.specs.Bytes.{is_word_byte, begins}
 use Rattle.spl_tree.specs.Tokens.{Take, Refuse, Refusal, front, as_front, is_formed, kind_of, number_kind, digits, suffix, width_kind, suffix_kind, signed_kind, unsigned_kind}
 use Rattle.spl_tree.specs.Laws.{IsToken}
 use Rattle.spl_tree.specs.TokenLaws.{Fits}
-use Rattle.spl_tree.proofs.TokenLaws.{front_fits}
+use Rattle.spl_tree.proofs.TokenLaws.{front_fits, form_mapped}
 use Rattle.spl_tree.proofs.GapLaws.{drop-prefix_len, prefix_len-append, take-prefix_len}
 use Rattle.spl_tree.proofs.FrontLaws.{Stands, front_stands, token_front-is}
 use Rattle.spl_lexer.specs.steps.Scanning.{suffix_ahead}
 use Rattle.spl_lexer.proofs.Reach.{prefix_len-first}
-use Rattle.spl_lexer.proofs.Fronts.{digit_letter, number_front}
+use Rattle.spl_lexer.proofs.Fronts.{digit_letter, number_of, number_front}
 use Rattle.lexical_laws.specs.Refusals as refusals
 use Rattle.lexical_laws.specs.Refusals.{Decimal, none, digit, Sign, signed, unsigned, Width, int, int8, int16, int32, int64, uint, uint8, uint16, uint32, uint64, IsSuffix, IsNumber, number, Shows, bad_number}
 
@@ -155,9 +155,9 @@ digits_words (d ∷ ds) all =
 -- what a digit begins has the form of a token where it is a number by its suffix, and is that number
 digit_formed : (bs : List ℕ) → begins is_digit bs ≡ true → is_formed bs ≡ is_some (suffix_kind (suffix bs))
 digit_formed [] h = absurd (cc)
-digit_formed (b ∷ bs) h = rw (digit_letter b h, h) refl
+digit_formed (b ∷ bs) h = rw (digit_letter b h, h) (form_mapped _ _)
 
-digit_kind : (bs : List ℕ) → begins is_digit bs ≡ true → kind_of bs ≡ number_kind (fold digit_step 0 (digits bs)) (suffix_kind (suffix bs))
+digit_kind : (bs : List ℕ) → begins is_digit bs ≡ true → kind_of bs ≡ number_of (fold digit_step 0 (digits bs)) (suffix_kind (suffix bs))
 digit_kind [] h = absurd (cc)
 digit_kind (b ∷ bs) h = rw (digit_letter b h, h) refl
 
@@ -206,9 +206,9 @@ module _ (n : ℕ) (ds letters : List ℕ) (k : IntKind) (h : begins is_digit ds
   number_is =
       let stops = (suffix_letters s).1 in
       digit_kind (ds ++ letters) (begins-append is_digit ds letters h)
-      ∙ ap₂ (λ (cs : List ℕ) (o : Option IntKind). number_kind (fold digit_step 0 cs) o) (digits-are ds letters (decimal_read d).1 stops)
+      ∙ ap₂ (λ (cs : List ℕ) (o : Option IntKind). number_of (fold digit_step 0 cs) o) (digits-are ds letters (decimal_read d).1 stops)
       (ap suffix_kind (suffix-is ds letters (decimal_read d).1 stops) ∙ suffix_found s)
-      ∙ ap (λ m. number_kind m (Some k)) (decimal_read d).0
+      ∙ ap (λ m. number_kind m k) (decimal_read d).0
       ∙ rw (lt-ltb n (top k) small) refl
 
   pub number_token : (after : List ℕ) → begins is_word_byte after ≡ false → IsToken (T.Number (record { kind = k; value = n })) (ds ++ letters) after
@@ -275,7 +275,7 @@ numbered bs kind h is = by (suffix_kind (suffix bs)) refl (sym (digit_kind bs h)
     some : begins is_digit (digits bs) ≡ true
     some = begins-take is_digit (prefix_len is_digit bs) bs (prefix_len-first is_digit bs h) ∙ h
 
-    by : (o : Option IntKind) → suffix_kind (suffix bs) ≡ o → number_kind (fold digit_step 0 (digits bs)) o ≡ Ok kind → Numbered bs kind
+    by : (o : Option IntKind) → suffix_kind (suffix bs) ≡ o → number_of (fold digit_step 0 (digits bs)) o ≡ Ok kind → Numbered bs kind
     by None e is = absurd (cc)
     by (Some k) e is = by_size (nat_lt (fold digit_step 0 (digits bs)) (top k)) refl is
       where

@@ -1,5 +1,5 @@
 -- What is written as a token of a kind is that token.
-use Rattle.std.proofs.Common.{◌≡◌, ◌∙◌, ℕ, suc, ◌+◌, ◌-◌, ◌==◌, ◌||◌, Bool, true, false, List, [], ◌∷◌, ◌++◌, length, take, Option, Some, None, Ok, refl, ap, ap₂, arith, append-nil, length-append, zero-add}
+use Rattle.std.proofs.Common.{◌≡◌, ◌∙◌, ℕ, suc, ◌+◌, ◌-◌, ◌==◌, ◌||◌, Bool, true, false, List, [], ◌∷◌, ◌++◌, length, take, Option, Some, None, Result, Ok, refl, ap, ap₂, arith, append-nil, length-append, zero-add}
 use Rattle.std.proofs.Math.Seq.{take-append_seam}
 use Rattle.std.proofs.lemmas.Bool.{and_right, eqb-true, eq-eqb, ne_eqb}
 use Rattle.spl_value.specs.declared.types.IntKind.{IntKind}
@@ -15,9 +15,10 @@ use Rattle.spl_tree.specs.declared.token.TokenKind.{TokenKind}
 use Rattle.spl_tree.specs.declared.token.TokenKind.TheVariants as T
 use Rattle.spl_tree.specs.Bytes.{is_quote, begins}
 use Rattle.spl_tree.specs.Words.{symbol_text, keyword_word, keyword_of}
-use Rattle.spl_tree.specs.Tokens.{word_kind, is_formed, kind_of, ends_text, escape, onto, onto_escape, unescaped, between_quotes, text_kind}
+use Rattle.spl_tree.specs.Tokens.{Refusal, word_kind, is_formed, kind_of, ends_text, escape, onto, onto_escape, unescaped, between_quotes, text_kind}
 use Rattle.spl_tree.specs.Laws.{IsToken, done, token}
 use Rattle.spl_tree.proofs.CutLaws.{one_cut_law}
+use Rattle.spl_tree.proofs.TokenLaws.{form_tested}
 use Rattle.lexical_laws.specs.Written as written
 use Rattle.lexical_laws.specs.Written.{Escapes, double_quote, single_quote, backslash, line_feed, tab, carriage_return, Means, Written, TokenLaw}
 use Rattle.spl_lexer.proofs.Escapes.{unescaped_plain}
@@ -76,14 +77,26 @@ between quote inside =
     let count : suc (length (inside ++ quote ∷ [])) - 2 ≡ length inside = omega (arith, length-append inside (quote ∷ [])) in
     ap (λ n. take n (inside ++ quote ∷ [])) count ∙ take-append_seam inside (quote ∷ [])
 
+-- what bytes that end with their quote are
+abbrev text : List ℕ → Result TokenKind Refusal
+text bs = text_kind (unescaped 1 (between_quotes bs))
+
 text_one : (quote : ℕ) (inside bytes : List ℕ) → is_quote quote ≡ true → Means quote inside bytes → IsOne (T.Text bytes) (quote ∷ (inside ++ quote ∷ []))
 text_one quote inside bytes quotes d = by (quote == 34) refl (quote == 39) refl quotes
   where
     double : (inside : List ℕ) → Means 34 inside bytes → IsOne (T.Text bytes) (34 ∷ (inside ++ 34 ∷ []))
-    double inside d = (text_ends 34 refl refl d, ap (λ cs. text_kind (unescaped 1 cs)) (between 34 inside) ∙ ap text_kind (text_means 34 refl refl d 1))
+    double inside d =
+        let ends = text_ends 34 refl refl d in (
+          form_tested text (ends_text 34 false (inside ++ 34 ∷ [])) (34 ∷ (inside ++ 34 ∷ [])) ∙ ends,
+          rw ends (ap (λ cs. text_kind (unescaped 1 cs)) (between 34 inside) ∙ ap text_kind (text_means 34 refl refl d 1)),
+        )
 
     single : (inside : List ℕ) → Means 39 inside bytes → IsOne (T.Text bytes) (39 ∷ (inside ++ 39 ∷ []))
-    single inside d = (text_ends 39 refl refl d, ap (λ cs. text_kind (unescaped 1 cs)) (between 39 inside) ∙ ap text_kind (text_means 39 refl refl d 1))
+    single inside d =
+        let ends = text_ends 39 refl refl d in (
+          form_tested text (ends_text 39 false (inside ++ 39 ∷ [])) (39 ∷ (inside ++ 39 ∷ [])) ∙ ends,
+          rw ends (ap (λ cs. text_kind (unescaped 1 cs)) (between 39 inside) ∙ ap text_kind (text_means 39 refl refl d 1)),
+        )
 
     by : (p : Bool) → (quote == 34) ≡ p → (q : Bool) → (quote == 39) ≡ q → (p || q) ≡ true → IsOne (T.Text bytes) (quote ∷ (inside ++ quote ∷ []))
     by true e q f h = let same = eqb-true quote 34 e in rw same (double inside (rw same at d))
@@ -95,10 +108,10 @@ written_one : {kind : TokenKind} {text : List ℕ} → Written kind text → IsO
 written_one (written.word b bs letter words none) = by (keyword_of (b ∷ bs)) refl
   where
     by : (o : Option Keyword) → keyword_of (b ∷ bs) ≡ o → IsOne (T.Word (b ∷ bs)) (b ∷ bs)
-    by None e = (rw letter words, rw letter (ap (λ o. Ok (word_kind (b ∷ bs) o)) e))
+    by None e = (rw (letter, words) refl, rw (letter, words) (ap (λ o. Ok (word_kind (b ∷ bs) o)) e))
     by (Some k) e = absurd (none k (keyword_of-word (b ∷ bs) k e))
 written_one (written.reserved k) = reserved_one k
-written_one (written.dollar b bs letter words) = (rw letter words, refl)
+written_one (written.dollar b bs letter words) = (rw (letter, words) refl, rw (letter, words) refl)
 written_one (written.number n ds letters k h d s small) = let t = number_token n ds letters k h d s small [] refl in (t.formed, t.is)
 written_one (written.text quote inside bytes quotes d) = text_one quote inside bytes quotes d
 written_one (written.symbol s) = symbol_one s

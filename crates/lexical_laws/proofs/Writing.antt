@@ -1,5 +1,5 @@
 -- Each token of a program is written as its kind says.
-use Rattle.std.proofs.Common.{◌≡◌, ◌∙◌, ℕ, suc, ◌+◌, ◌-◌, ◌==◌, Bool, true, false, cond, List, [], ◌∷◌, ◌++◌, length, take, drop, All, Option, Some, None, Result, Ok, Err, refl, sym, ap, ap₂, subst₂, true≢false, arith, append-nil, length-append}
+use Rattle.std.proofs.Common.{◌≡◌, ◌∙◌, ℕ, suc, ◌+◌, ◌-◌, ◌==◌, Bool, true, false, cond, List, [], ◌∷◌, ◌++◌, length, take, drop, All, Option, Some, None, option_map, Result, Ok, Err, refl, sym, ap, ap₂, subst₂, true≢false, arith, append-nil, length-append}
 use Rattle.std.proofs.Math.Seq.{take-append_seam}
 use Rattle.std.proofs.lemmas.Bool.{and_parts, eqb-true, ne_eqb}
 use Rattle.std.proofs.lemmas.List.Elements.{All-nil, All-cons}
@@ -15,8 +15,9 @@ use Rattle.spl_tree.specs.declared.token.TokenKind.{TokenKind}
 use Rattle.spl_tree.specs.declared.token.TokenKind.TheVariants as T
 use Rattle.spl_tree.specs.Bytes.{is_letter, is_word_byte, is_quote}
 use Rattle.spl_tree.specs.Words.{symbol_of, keyword_word, keyword_of}
-use Rattle.spl_tree.specs.Tokens.{is_word, word_kind, is_formed, kind_of, ends_text, escape, onto, onto_escape, unescaped, between_quotes, text_kind, symbol_kind}
+use Rattle.spl_tree.specs.Tokens.{is_word, word_kind, is_formed, kind_of, ends_text, escape, onto, onto_escape, unescaped, between_quotes, text_kind}
 use Rattle.spl_tree.specs.Laws.{Cut, done, gap, token, own_bytes}
+use Rattle.spl_tree.proofs.TokenLaws.{kind_in, form_tested}
 use Rattle.spl_tree.proofs.WordLaws.{keywords_law}
 use Rattle.spl_tree.proofs.CutLaws.{cut_law, behind}
 use Rattle.spl_lexer.specs.steps.Scanning.{text_length}
@@ -112,24 +113,26 @@ token_written (b ∷ bs) kind formed is = by (is_letter b) refl (is_digit b) ref
     dollar [] formed is = absurd (cc)
     dollar (c ∷ cs) formed is = let both = and_parts (is_letter c) (list_all is_word_byte cs) formed in rw (← is) (written.dollar c cs both.0 both.1)
 
-    symbol : (o : Option Symbol) → symbol_of (b ∷ bs) ≡ o → symbol_kind o ≡ Ok kind → Written kind (b ∷ bs)
+    symbol : (o : Option Symbol) → symbol_of (b ∷ bs) ≡ o → kind_in (option_map (λ s. Ok (T.Symbol s)) o) ≡ Ok kind → Written kind (b ∷ bs)
     symbol None e is = absurd (cc)
     symbol (Some s) e is = let same : T.Symbol s ≡ kind = cc in rw (← same, ← symbol_of-text (b ∷ bs) s e) (written.symbol s)
 
     by : (letter : Bool) → is_letter b ≡ letter → (digit : Bool) → is_digit b ≡ digit → (cash : Bool) → (b == 36) ≡ cash → (quote : Bool) → is_quote b ≡ quote
         → is_formed (b ∷ bs) ≡ true → kind_of (b ∷ bs) ≡ Ok kind → Written kind (b ∷ bs)
     by true l digit d cash c quote q formed is =
-        let words : list_all is_word_byte bs ≡ true = (rw l at formed) in
-        let same : Ok (word_kind (b ∷ bs) (keyword_of (b ∷ bs))) ≡ Ok kind = (rw l at is) in
+        let words = sym (form_tested (λ word. Ok (word_kind word (keyword_of word))) (list_all is_word_byte bs) (b ∷ bs)) ∙ (rw l at formed) in
+        let same : Ok (word_kind (b ∷ bs) (keyword_of (b ∷ bs))) ≡ Ok kind = (rw (l, words) at is) in
         word_written b bs kind l words (cc)
     by false l true d cash c quote q formed is =
         let n = numbered (b ∷ bs) kind d is in
         subst₂ Written n.is n.are (written.number n.n n.ds n.letters n.k n.begun n.says n.suffix n.small)
     by false l false d true c quote q formed is =
-        let words : is_word bs ≡ true = (rw (l, d, c) at formed) in
-        let same : Ok (T.Dollar bs) ≡ Ok kind = (rw (l, d, c) at is) in
+        let words = sym (form_tested (λ word. Ok (T.Dollar word)) (is_word bs) bs) ∙ (rw (l, d, c) at formed) in
+        let same : Ok (T.Dollar bs) ≡ Ok kind = (rw (l, d, c, words) at is) in
         rw (eqb-true b 36 c) (dollar bs words (cc))
-    by false l false d false c true q formed is = text_written b bs kind q (rw (l, d, c, q) at formed) (rw (l, d, c, q) at is)
+    by false l false d false c true q formed is =
+        let ends = sym (form_tested (λ text. text_kind (unescaped 1 (between_quotes text))) (ends_text b false bs) (b ∷ bs)) ∙ (rw (l, d, c, q) at formed) in
+        text_written b bs kind q ends (rw (l, d, c, q, ends) at is)
     by false l false d false c false q formed is = symbol (symbol_of (b ∷ bs)) refl (rw (l, d, c, q) at is)
 
 -- each token of bytes that stand at a place is written there

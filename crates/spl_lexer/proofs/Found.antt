@@ -73,7 +73,7 @@ digits_found bs n e = ap (λ m. list_all is_digit (take m bs)) e ∙ take-prefix
 
 -- what is found once a number's digits and letters are read
 abbrev Number : List ℕ → Bool → ℕ → ℕ → IntKind → Front
-Number bs run_on n end kind = cond run_on (Refuse E.BadNumber 0) (as_front end (number_kind (fold digit_step 0 (take n bs)) (Some kind)))
+Number bs run_on n end kind = cond run_on (Refuse E.BadNumber 0) (as_front end (number_kind (fold digit_step 0 (take n bs)) kind))
 
 number_is : (bs : List ℕ) (n : ℕ) (s : IntKind × ℕ) (run_on : Bool) → begins is_digit bs ≡ true → n ≡ prefix_len is_digit bs
     → s ≡ suffix_ahead (drop n bs) → begins is_word_byte (drop (n + s.1) bs) ≡ run_on → Number bs run_on n (n + s.1) s.0 ≡ front bs
@@ -85,7 +85,7 @@ number_is bs n s run_on h e is apart =
 
 pub number_found : (bs : List ℕ) (n : ℕ) (s : IntKind × ℕ) (f : Front) → begins is_digit bs ≡ true → n ≡ prefix_len is_digit bs
     → s ≡ suffix_ahead (drop n bs) → begins is_word_byte (drop (n + s.1) bs) ≡ false
-    → f ≡ as_front (n + s.1) (number_kind (fold digit_step 0 (take n bs)) (Some s.0)) → f ≡ front bs
+    → f ≡ as_front (n + s.1) (number_kind (fold digit_step 0 (take n bs)) s.0) → f ≡ front bs
 number_found bs n s f h e is apart it = it ∙ number_is bs n s false h e is apart
 
 pub run_on_found : (bs : List ℕ) (n : ℕ) (s : IntKind × ℕ) → begins is_digit bs ≡ true → n ≡ prefix_len is_digit bs

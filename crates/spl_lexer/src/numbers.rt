@@ -1,5 +1,5 @@
 //! Number literals.
-ghost use Rattle.std.specs.Prelude.{◌≡◌, ◌≤◌, ◌<◌, length, take, drop, fold, Some, Err, Ok, true, false};
+ghost use Rattle.std.specs.Prelude.{◌≡◌, ◌≤◌, ◌<◌, length, take, drop, fold, Err, Ok, true, false};
 ghost use Rattle.std.specs.List.{prefix_len, list_all};
 ghost use Rattle.spl_value.specs.Decimal.{is_digit, digit_step};
 ghost use Rattle.spl_tree.specs.Bytes.{begins};
@@ -60,7 +60,7 @@ fn suffix(bytes: &[u8]) -> (IntKind, usize)
 fn of_kind(kind: IntKind, digits: &[u8], end: usize) -> Scanned
     requires some { 0 < length digits.now }
     requires all { list_all is_digit digits.now ≡ true }
-    ensures { front_of result ≡ as_front end (number_kind (fold digit_step 0 digits.now) (Some kind)) }
+    ensures { front_of result ≡ as_front end (number_kind (fold digit_step 0 digits.now) kind) }
 {
     match read_integer(kind, digits) {
         Some(value) => Scanned::Token(

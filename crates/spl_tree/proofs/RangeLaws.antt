@@ -1,5 +1,6 @@
 -- The numbers of the expressions that a program's tokens spell are those of their types.
-use Rattle.std.specs.Prelude.{◌≡◌, ◌==◌, ◌&&◌, ℕ, Bool, true, false, IsTrue, nat_lt, List, [], ◌∷◌, ◌++◌, map, Option, Some, None, Result, Ok, Err, if◌then◌else◌}
+use Rattle.std.specs.Prelude.{◌≡◌, ◌==◌, ◌&&◌, ℕ, Bool, true, false, IsTrue, nat_lt, List, [], ◌∷◌, ◌++◌, map, Option, Some, None, option_map, Result, Ok, Err, if◌then◌else◌}
+use Rattle.std.specs.Bool.{then_some}
 use Rattle.std.specs.List.{AllByRecursion, list_all, fold}
 use Rattle.std.specs.Cmp.Derive.{both_true}
 use Rattle.std.proofs.Common.{refl, ap, subst, ◌∙◌}
@@ -8,11 +9,11 @@ use Rattle.spl_value.specs.declared.types.IntKind.{IntKind}
 use Rattle.spl_value.specs.Decimal.{is_digit, digit_step}
 use Rattle.spl_tree.specs.Bytes.{is_letter, is_quote}
 use Rattle.spl_tree.specs.Words.{symbol_of, keyword_of}
-use Rattle.spl_tree.specs.declared.symbol.Symbol.{Symbol}
 use Rattle.spl_tree.specs.declared.keyword.Keyword.{Keyword}
 use Rattle.spl_tree.specs.declared.token.Token.{Token}
 use Rattle.spl_tree.specs.declared.token.TokenKind.{TokenKind}
 use Rattle.spl_tree.specs.declared.token.TokenKind.TheVariants as T
+use Rattle.spl_tree.specs.declared.token.LexicalError.TheVariants as L
 use Rattle.spl_tree.specs.declared.expression.Placed.{Placed}
 use Rattle.spl_tree.specs.declared.expression.Field.{Field}
 use Rattle.spl_tree.specs.declared.expression.Step.{Step}
@@ -24,9 +25,10 @@ use Rattle.spl_tree.specs.declared.expression.ExprKind.TheOpen.{ExprKind-F}
 use Rattle.spl_tree.specs.declared.expression.ExprKind.TheViews.{out-ExprKind}
 use Rattle.spl_tree.specs.declared.expression.ExprKind.TheFolds.{fold_out-ExprKind, map-ExprKind}
 use Rattle.spl_tree.specs.declared.token.Tokens.{Tokens}
-use Rattle.spl_tree.specs.Tokens.{Refusal, word_kind, number_kind, digits, suffix, suffix_kind, text_kind, unescaped, between_quotes, symbol_kind, kind_of, tokens}
+use Rattle.spl_tree.specs.Tokens.{Refusal, is_word, word_kind, number_kind, digits, suffix, suffix_kind, ends_text, text_kind, unescaped, between_quotes, kind_of, tokens}
 use Rattle.spl_tree.specs.Laws.{Cut, done, gap, token}
 use Rattle.spl_tree.proofs.CutLaws.{cut_law}
+use Rattle.spl_tree.proofs.TokenLaws.{kind_in}
 use Rattle.spl_tree.specs.steps.Grammar as G
 use Rattle.spl_tree.specs.Trees.{Expr, placed}
 use Rattle.spl_tree.specs.steps.Grammar.{Literal, Primary, Elements, Items, Entries, Fields, Steps, Operand, Unary, At, Spells}
@@ -44,14 +46,20 @@ abbrev RangedIn : Result TokenKind Refusal → Type 0
 RangedIn (Ok kind) = Ranged kind
 RangedIn (Err refusal) = Unit {0}
 
-if_ranged : (b : Bool) (r s : Result TokenKind Refusal) → RangedIn r → RangedIn s → RangedIn (if b then r else s)
+abbrev FormRanged : Option (Result TokenKind Refusal) → Type 0
+FormRanged o = RangedIn (kind_in o)
+
+if_ranged : (b : Bool) (r s : Option (Result TokenKind Refusal)) → FormRanged r → FormRanged s → FormRanged (if b then r else s)
 if_ranged true r s h g = h
 if_ranged false r s h g = g
 
-number_ranged : (n : ℕ) (k : Option IntKind) → RangedIn (number_kind n k)
-number_ranged n None = tt
-number_ranged n (Some k) =
-    elim (nat_lt n (top k)) as (λ b. nat_lt n (top k) ≡ b → RangedIn (if b then Ok (T.Number (record { kind = k; value = n })) else number_kind n None)) [
+mapped_ranged : {A : Type 0} (f : A → Result TokenKind Refusal) (o : Option A) → ((x : A) → RangedIn (f x)) → FormRanged (option_map f o)
+mapped_ranged f None each = tt
+mapped_ranged f (Some x) each = each x
+
+number_ranged : (n : ℕ) (k : IntKind) → RangedIn (number_kind n k)
+number_ranged n k =
+    elim (nat_lt n (top k)) as (λ b. nat_lt n (top k) ≡ b → RangedIn (if b then Ok (T.Number (record { kind = k; value = n })) else Err (L.BadNumber, 0))) [
       | true ↦ λ below. below
       | false ↦ λ above. tt
     ] refl
@@ -64,17 +72,14 @@ text_ranged : (r : Result (List ℕ) ℕ) → RangedIn (text_kind r)
 text_ranged (Ok bs) = tt
 text_ranged (Err at) = tt
 
-symbol_ranged : (s : Option Symbol) → RangedIn (symbol_kind s)
-symbol_ranged (Some s) = tt
-symbol_ranged None = tt
-
 kind_ranged : (bs : List ℕ) → RangedIn (kind_of bs)
 kind_ranged [] = tt
 kind_ranged (b ∷ bs) =
-    if_ranged (is_letter b) _ _ (word_ranged (b ∷ bs) (keyword_of (b ∷ bs)))
-    (if_ranged (is_digit b) _ _ (number_ranged (fold digit_step 0 (digits (b ∷ bs))) (suffix_kind (suffix (b ∷ bs))))
-    (if_ranged (b == 36) _ _ tt
-    (if_ranged (is_quote b) _ _ (text_ranged (unescaped 1 (between_quotes (b ∷ bs)))) (symbol_ranged (symbol_of (b ∷ bs))))))
+    if_ranged (is_letter b) _ _ (mapped_ranged (λ word. Ok (word_kind word (keyword_of word))) (then_some (is_word (b ∷ bs)) (b ∷ bs)) (λ word. word_ranged word (keyword_of word)))
+    (if_ranged (is_digit b) _ _ (mapped_ranged (number_kind (fold digit_step 0 (digits (b ∷ bs)))) (suffix_kind (suffix (b ∷ bs))) (number_ranged (fold digit_step 0 (digits (b ∷ bs)))))
+    (if_ranged (b == 36) _ _ (mapped_ranged (λ word. Ok (T.Dollar word)) (then_some (is_word bs) bs) (λ word. tt))
+    (if_ranged (is_quote b) _ _ (mapped_ranged (λ text. text_kind (unescaped 1 (between_quotes text))) (then_some (ends_text b false bs) (b ∷ bs))
+    (λ text. text_ranged (unescaped 1 (between_quotes text)))) (mapped_ranged (λ s. Ok (T.Symbol s)) (symbol_of (b ∷ bs)) (λ s. tt)))))
 
 abbrev AllRanged : List Token → Type 0
 AllRanged ts = AllByRecursion (λ t. Ranged t.kind) ts

@@ -1,13 +1,13 @@
 -- How far the longest token reaches, that what stands at the front fits in the bytes, and one step through the tokens.
-use Rattle.std.proofs.Common.{◌≡◌, ◌∙◌, ℕ, zero, suc, ◌+◌, ◌-◌, ◌<◌, ◌≤◌, ◌==◌, nat_lt, ◌&&◌, fold, Bool, true, false, cond, not, List, [], ◌∷◌, ◌++◌, length, take, drop, Option, Some, None, option_map, IfSome, Result, Ok, Err, IfErr, refl, sym, ap, inl, inr, arith, append_assoc, add-zero, length-drop, length-take, length-take-le}
+use Rattle.std.proofs.Common.{◌≡◌, ◌∙◌, ℕ, zero, suc, ◌+◌, ◌-◌, ◌<◌, ◌≤◌, ◌==◌, nat_lt, ◌&&◌, fold, Bool, true, false, cond, not, List, [], ◌∷◌, ◌++◌, length, take, drop, Option, Some, None, option_map, is_some, unwrap_or, IfSome, Result, Ok, Err, IfErr, refl, sym, ap, inl, inr, arith, append_assoc, add-zero, length-drop, length-take, length-take-le}
 use Rattle.std.proofs.lemmas.Bool.{cases_order, and_parts}
 use Rattle.std.proofs.lemmas.List.{drop-drop}
 use Rattle.std.proofs.lemmas.List.Sums.{prefix_len-le-length}
+use Rattle.std.specs.Bool.{then_some}
 use Rattle.std.specs.List.{prefix_len}
 use Rattle.spl_value.specs.declared.types.IntKind.{IntKind}
 use Rattle.spl_value.specs.Values.{top}
 use Rattle.spl_value.specs.Decimal.{is_digit, digit_step}
-use Rattle.spl_tree.specs.declared.symbol.Symbol.{Symbol}
 use Rattle.spl_tree.specs.declared.token.TokenKind.{TokenKind}
 use Rattle.spl_tree.specs.declared.token.Token.{Token}
 use Rattle.spl_tree.specs.declared.token.LexicalError.{LexicalError}
@@ -15,8 +15,24 @@ use Rattle.spl_tree.specs.declared.token.LexicalError.TheVariants as E
 use Rattle.spl_tree.specs.declared.token.TokenKind.TheVariants as T
 use Rattle.spl_tree.specs.Bytes.{is_blank, is_letter, is_quote, begins}
 use Rattle.spl_tree.specs.Words.{symbol_of, keyword_of}
-use Rattle.spl_tree.specs.Tokens.{Refusal, word_kind, digits, suffix, suffix_kind, is_formed, kind_of, number_kind, unescaped, onto, onto_escape, escape, between_quotes, text_kind, symbol_kind, longest_front, Front, Take, Pass, Refuse, as_front, is_run_on, token_front, comment_length, comment_front, front, Lexed, with_front, by_front, tokens_from}
+use Rattle.spl_tree.specs.Tokens.{Refusal, is_word, word_kind, digits, suffix, suffix_kind, ends_text, is_formed, kind_of, number_kind, unescaped, onto, onto_escape, escape, between_quotes, text_kind, longest_front, Front, Take, Pass, Refuse, as_front, is_run_on, token_front, comment_length, comment_front, front, Lexed, with_front, by_front, tokens_from}
 use Rattle.spl_tree.specs.TokenLaws.{Fits}
+
+-- The form of a token
+
+-- what bytes of this form are (`kind_of`)
+abbrev pub kind_in : Option (Result TokenKind Refusal) → Result TokenKind Refusal
+kind_in o = unwrap_or o (Err (E.BadByte, 0))
+
+-- what is made of what has a form has it
+pub form_mapped : {A : Type 0} (f : A → Result TokenKind Refusal) (o : Option A) → is_some (option_map f o) ≡ is_some o
+form_mapped f None = refl
+form_mapped f (Some x) = refl
+
+-- and what passes a test has the form that is tested
+pub form_tested : {A : Type 0} (f : A → Result TokenKind Refusal) (t : Bool) (x : A) → is_some (option_map f (then_some t x)) ≡ t
+form_tested f true x = refl
+form_tested f false x = refl
 
 -- The longest token
 
@@ -98,9 +114,8 @@ unescaped-place at most (b ∷ c ∷ bs) le =
     by false o behind next = onto-place most b (unescaped (at + 1) (c ∷ bs)) next
 
 -- a number is refused at its start
-number_kind-place : (most n : ℕ) (o : Option IntKind) → Within most (number_kind n o)
-number_kind-place most n None = omega arith
-number_kind-place most n (Some k) = by (nat_lt n (top k))
+number_kind-place : (most n : ℕ) (k : IntKind) → Within most (number_kind n k)
+number_kind-place most n k = by (nat_lt n (top k))
   where
     by : (t : Bool) → Within most (cond t (Ok (T.Number (record { kind = k; value = n }))) (Err (E.BadNumber, 0)))
     by true = tt
@@ -111,29 +126,41 @@ text_kind-place : (most : ℕ) (r : Result (List ℕ) ℕ) → IfErr r (λ at. a
 text_kind-place most (Ok bs) le = tt
 text_kind-place most (Err at) le = le
 
--- bytes that are no symbol are refused at their start
-symbol_kind-place : (most : ℕ) (o : Option Symbol) → Within most (symbol_kind o)
-symbol_kind-place most None = omega arith
-symbol_kind-place most (Some s) = tt
+-- what has the form of no token is refused at its start
+abbrev FormWithin : ℕ → Option (Result TokenKind Refusal) → Type 0
+FormWithin most o = Within most (kind_in o)
+
+mapped-place : {A : Type 0} (most : ℕ) (f : A → Result TokenKind Refusal) (o : Option A) → ((x : A) → Within most (f x)) → FormWithin most (option_map f o)
+mapped-place most f None each = omega arith
+mapped-place most f (Some x) each = each x
+
+tested-place : {A : Type 0} (most : ℕ) (f : A → Result TokenKind Refusal) (t : Bool) (x : A) → Within most (f x) → FormWithin most (option_map f (then_some t x))
+tested-place most f true x within = within
+tested-place most f false x within = omega arith
 
 -- bytes that are no token are refused at a place in them
 kind_of-place : (bs : List ℕ) → Within (length bs) (kind_of bs)
 kind_of-place [] = omega arith
 kind_of-place (b ∷ bs) =
     let inside : 1 + length (between_quotes (b ∷ bs)) ≤ suc (length bs) = omega (arith, length-take (suc (length bs) - 2) bs) in
-    by (is_letter b) (is_digit b) (b == 36) (is_quote b) (word_kind (b ∷ bs) (keyword_of (b ∷ bs))) _ _ _
-    (number_kind-place (suc (length bs)) (fold digit_step 0 (digits (b ∷ bs))) (suffix_kind (suffix (b ∷ bs))))
-    (text_kind-place (suc (length bs)) (unescaped 1 (between_quotes (b ∷ bs))) (unescaped-place 1 (suc (length bs)) (between_quotes (b ∷ bs)) inside))
-    (symbol_kind-place (suc (length bs)) (symbol_of (b ∷ bs)))
+    by (is_letter b) (is_digit b) (b == 36) (is_quote b) _ _ _ _ _
+    (tested-place (suc (length bs)) (λ word. Ok (word_kind word (keyword_of word))) (is_word (b ∷ bs)) (b ∷ bs) tt)
+    (mapped-place (suc (length bs)) (number_kind (fold digit_step 0 (digits (b ∷ bs)))) (suffix_kind (suffix (b ∷ bs)))
+    (number_kind-place (suc (length bs)) (fold digit_step 0 (digits (b ∷ bs)))))
+    (tested-place (suc (length bs)) (λ word. Ok (T.Dollar word)) (is_word bs) bs tt)
+    (tested-place (suc (length bs)) (λ text. text_kind (unescaped 1 (between_quotes text))) (ends_text b false bs) (b ∷ bs)
+    (text_kind-place (suc (length bs)) (unescaped 1 (between_quotes (b ∷ bs))) (unescaped-place 1 (suc (length bs)) (between_quotes (b ∷ bs)) inside)))
+    (mapped-place (suc (length bs)) (λ s. Ok (T.Symbol s)) (symbol_of (b ∷ bs)) (λ s. tt))
   where
-    by : (letter digit dollar quote : Bool) (word : TokenKind) (number text symbol : Result TokenKind Refusal)
-        → Within (suc (length bs)) number → Within (suc (length bs)) text → Within (suc (length bs)) symbol
-        → Within (suc (length bs)) (cond letter (Ok word) (cond digit number (cond dollar (Ok (T.Dollar bs)) (cond quote text symbol))))
-    by true digit dollar quote word number text symbol n t s = tt
-    by false true dollar quote word number text symbol n t s = n
-    by false false true quote word number text symbol n t s = tt
-    by false false false true word number text symbol n t s = t
-    by false false false false word number text symbol n t s = s
+    by : (letter digit dollar quote : Bool) (word number parameter text symbol : Option (Result TokenKind Refusal))
+        → FormWithin (suc (length bs)) word → FormWithin (suc (length bs)) number → FormWithin (suc (length bs)) parameter → FormWithin (suc (length bs)) text
+        → FormWithin (suc (length bs)) symbol
+        → FormWithin (suc (length bs)) (cond letter word (cond digit number (cond dollar parameter (cond quote text symbol))))
+    by true digit dollar quote word number parameter text symbol w n p t s = w
+    by false true dollar quote word number parameter text symbol w n p t s = n
+    by false false true quote word number parameter text symbol w n p t s = p
+    by false false false true word number parameter text symbol w n p t s = t
+    by false false false false word number parameter text symbol w n p t s = s
 
 -- a token of n bytes fits, and so does its refusal
 as_front-fits : (most n : ℕ) (r : Result TokenKind Refusal) → 0 < n → n ≤ most → Within n r → Fits most (as_front n r)

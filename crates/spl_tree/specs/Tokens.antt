@@ -1,12 +1,12 @@
 -- The tokens of bytes: at each place the longest front that has the form of a token is taken.
-use Rattle.std.specs.Prelude.{◌≡◌, ◌<◌, ◌≤◌, ℕ, zero, suc, ◌+◌, ◌-◌, ◌==◌, ◌&&◌, nat_lt, Bool, false, not, List, [], ◌∷◌, ◌++◌, length, take, drop, fold, Option, Some, None, option_map, is_some, Result, Ok, Err, if◌then◌else◌}
+use Rattle.std.specs.Prelude.{◌≡◌, ◌<◌, ◌≤◌, ℕ, zero, suc, ◌+◌, ◌-◌, ◌==◌, ◌&&◌, nat_lt, Bool, false, not, List, [], ◌∷◌, ◌++◌, length, take, drop, fold, Option, Some, None, option_map, unwrap_or, is_some, Result, Ok, Err, if◌then◌else◌}
+use Rattle.std.specs.Bool.{then_some}
 use Rattle.std.specs.List.{list_all, take_while, prefix_len}
 use Rattle.spl_value.specs.declared.types.IntKind.{IntKind}
 use Rattle.spl_value.specs.declared.types.IntKind.TheVariants.{I8, I16, I32, I64, U8, U16, U32, U64}
 use Rattle.spl_value.specs.Values.{top}
 use Rattle.spl_value.specs.Decimal.{is_digit, digit_step}
 use Rattle.spl_tree.specs.declared.keyword.Keyword.{Keyword}
-use Rattle.spl_tree.specs.declared.symbol.Symbol.{Symbol}
 use Rattle.spl_tree.specs.declared.token.TokenKind.{TokenKind}
 use Rattle.spl_tree.specs.declared.token.TokenKind.TheVariants as T
 use Rattle.spl_tree.specs.declared.token.Token.{Token}
@@ -68,9 +68,8 @@ suffix_kind (b ∷ bs) =
     else signed_kind (b ∷ bs))
 
 -- the number of the type, where it isn't too large for it
-abbrev pub number_kind : ℕ → Option IntKind → Result TokenKind Refusal
-number_kind n None = Err (E.BadNumber, 0)
-number_kind n (Some k) = if nat_lt n (top k) then Ok (T.Number (record { kind = k; value = n })) else Err (E.BadNumber, 0)
+abbrev pub number_kind : ℕ → IntKind → Result TokenKind Refusal
+number_kind n k = if nat_lt n (top k) then Ok (T.Number (record { kind = k; value = n })) else Err (E.BadNumber, 0)
 
 -- Texts
 
@@ -122,29 +121,21 @@ text_kind (Err at) = Err (E.BadByte, at)
 
 -- The form of a token
 
-abbrev pub symbol_kind : Option Symbol → Result TokenKind Refusal
-symbol_kind (Some s) = Ok (T.Symbol s)
-symbol_kind None = Err (E.BadByte, 0)
+-- the token that these bytes are, all of them, or why they are none and at which of their bytes; None where they have the form of no token
+abbrev pub form : List ℕ → Option (Result TokenKind Refusal)
+form [] = None
+form (b ∷ bs) =
+    if is_letter b then option_map (λ word. Ok (word_kind word (keyword_of word))) (then_some (is_word (b ∷ bs)) (b ∷ bs))
+    else (if is_digit b then option_map (number_kind (fold digit_step 0 (digits (b ∷ bs)))) (suffix_kind (suffix (b ∷ bs)))
+    else (if b == 36 then option_map (λ word. Ok (T.Dollar word)) (then_some (is_word bs) bs)
+    else (if is_quote b then option_map (λ text. text_kind (unescaped 1 (between_quotes text))) (then_some (ends_text b false bs) (b ∷ bs))
+    else option_map (λ s. Ok (T.Symbol s)) (symbol_of (b ∷ bs)))))
 
--- whether these bytes, all of them, have the form of a token
 abbrev pub is_formed : List ℕ → Bool
-is_formed [] = false
-is_formed (b ∷ bs) =
-    if is_letter b then is_word (b ∷ bs)
-    else (if is_digit b then is_some (suffix_kind (suffix (b ∷ bs)))
-    else (if b == 36 then is_word bs
-    else (if is_quote b then ends_text b false bs
-    else is_some (symbol_of (b ∷ bs)))))
+is_formed bs = is_some (form bs)
 
--- the token that bytes of that form are, or why they are none, and at which of their bytes
 abbrev pub kind_of : List ℕ → Result TokenKind Refusal
-kind_of [] = Err (E.BadByte, 0)
-kind_of (b ∷ bs) =
-    if is_letter b then Ok (word_kind (b ∷ bs) (keyword_of (b ∷ bs)))
-    else (if is_digit b then number_kind (fold digit_step 0 (digits (b ∷ bs))) (suffix_kind (suffix (b ∷ bs)))
-    else (if b == 36 then Ok (T.Dollar bs)
-    else (if is_quote b then text_kind (unescaped 1 (between_quotes (b ∷ bs)))
-    else symbol_kind (symbol_of (b ∷ bs)))))
+kind_of bs = unwrap_or (form bs) (Err (E.BadByte, 0))
 
 -- the length of the longest front of at most this number of bytes that has the form of a token; 0 where
 -- there is none
