@@ -1,5 +1,5 @@
--- What an expression is to those around it, beside its value: a name, what may be changed, a question for the marker that came, or a
--- marker.
+-- What an expression is to the place in which it stands, beside its value: a name, the root of a place, a question for the marker
+-- that came, or a marker.
 use Rattle.std.specs.Prelude.{ℕ, Bool, false, List, [], ◌∷◌, if◌then◌else◌, codes, Option, Some, None}
 use Rattle.std.specs.Str.{bytes_eq}
 use Rattle.spl_tree.specs.declared.expression.Step.{Step}
@@ -27,7 +27,7 @@ level_root (X.Name name) = Some name
 level_root (X.Select base steps) = base.what
 level_root _ = None
 
--- the name that it is, or of which it takes members and elements, in no parentheses: what may be changed
+-- the name at the root of a place, as of `x`, `x.a` and `x[0].b`; none where a part of it stands in parentheses
 abbrev pub root_of : ExprKind → Option (List ℕ)
 root_of = fold-ExprKind (Option (List ℕ)) level_root
 
@@ -46,11 +46,12 @@ asks_punct = fold-ExprKind Bool level_asks
 abbrev pub marker_of : List ℕ → Option Marker
 marker_of name = if bytes_eq name (codes "WindowMarker") then Some M.Window else if bytes_eq name (codes "FinalMarker") then Some M.Final else None
 
+-- the marker that is taken of `Sys`, by one step
 abbrev pub marker_in : {A : Type 0} → Option (List ℕ) → List (Step A) → Option Marker
 marker_in (Some base) (N.Member m ∷ []) = if bytes_eq base (codes "Sys") then marker_of m.what else None
 marker_in _ _ = None
 
--- each part of the expression stands before what is found of it
+-- each part comes with the marker that it is
 abbrev pub level_marker : ExprKind-F (ExprKind × Option Marker) → Option Marker
 level_marker (X.Group e) = e.what.1
 level_marker (X.Select base steps) = marker_in (root_of base.what.0) steps

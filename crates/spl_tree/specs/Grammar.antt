@@ -50,14 +50,14 @@ use Rattle.spl_tree.specs.Trees.{Expr, Prefix, TypeExpr, Shape, Stmt, IsNoIf, pl
 -- ---- phrases
 
 pub data Phrase : Type 0 where
-  -- one token of that kind
+  -- that token
   OneToken : TokenKind → Phrase
   -- the phrase, whose first token begins at that place
   At : ℕ → Phrase → Phrase
   -- the phrase, or no token
   Optional : Phrase → Phrase
-  -- expressions, from those that bind tightest on: a primary expression; what is taken of it; with operators in front of
-  -- it; with operators between operands, up to a level of nine; any expression
+  -- a primary expression; one with the members and elements taken of it, if any; a prefix operator or a cast; an operand with
+  -- those in front of it; an expression whose operators between operands are of the levels up to this one, of nine; any one
   Primary : Expr → Phrase
   Operand : Expr → Phrase
   InFront : Prefix → Phrase
@@ -67,17 +67,17 @@ pub data Phrase : Type 0 where
   -- types; and shapes, which are types or the attributes of a tuple type
   AType : TypeExpr → Phrase
   AShape : Shape → Phrase
-  -- what an assignment changes
+  -- what an assignment changes, and the declaration of a variable
   Place : Expr → Phrase
   Variable : Declaration → Phrase
-  -- a statement, which is closed where an `else` after it would belong to none of its own `if`; and any statement
+  -- a statement, which is closed where an `else` right after it can belong to no `if` within it; and one that is closed or not
   Statement : (closed : Bool) → Stmt → Phrase
   AnyStatement : Stmt → Phrase
   -- the conditions of an `if` at a place and of each `else if` after it, with their statements, of which the last one is
   -- closed or not
   Arms : (closed : Bool) → ℕ → List (Expr × Stmt) → Phrase
-  -- invocations, and the parts of which they are made: streams and an alias, an input port, variables of a state, windows,
-  -- assignments of an output, parameters, and what follows the inputs
+  -- an invocation, and its parts: the streams that it makes, with an alias; an input port; the variables of its state; the
+  -- window of a port; the assignments of an output; a parameter; and the clauses, or `;`
   AnInvocation : Invocation → Phrase
   Head : List OutputStream → Option (Placed (List ℕ)) → Phrase
   Input : InputPort → Phrase
@@ -86,7 +86,8 @@ pub data Phrase : Type 0 where
   Assignments : OutputAssignments → Phrase
   AParameter : Parameter → Phrase
   Ending : Clauses → Phrase
-  -- the ports of a composite, its definition or another one, a `namespace` line, and a program
+  -- the ports of a composite, or none; the definition of a type, a function or a composite; a `namespace` line, or none; a
+  -- program
   Ports : (outputs inputs : List HeadPort) → Phrase
   ADefinition : Definition → Phrase
   Namespace : Phrase
@@ -103,6 +104,7 @@ Name n = At n.at (OneToken (T.Word n.what))
 
 -- ---- phrases one after another
 
+-- one phrase
 abbrev pub alone : {A : Type 0} → (A → Phrase) → A → List Phrase
 alone f x = f x ∷ []
 
@@ -110,7 +112,7 @@ abbrev pub maybe : {A : Type 0} → (A → List Phrase) → Option A → List Ph
 maybe f None = []
 maybe f (Some x) = f x
 
--- those of each, in a row
+-- the phrases of each element, one after another
 abbrev pub row : {A : Type 0} → (A → List Phrase) → List A → List Phrase
 row f [] = []
 row f (x ∷ xs) = f x ++ row f xs
@@ -143,7 +145,7 @@ abbrev pub step : Step Expr → List Phrase
 step (N.Member n) = Sign S.Dot ∷ Name n ∷ []
 step (N.Index e) = Sign S.LeftBracket ∷ Expression e ∷ Sign S.RightBracket ∷ []
 
--- a call of a name
+-- a name, and arguments in parentheses
 abbrev pub call_of : Placed (List ℕ) → List Expr → List Phrase
 call_of n es = Name n ∷ in_parens (expressions es)
 
@@ -177,7 +179,7 @@ abbrev pub clause : {A : Type 0} → Keyword → (A → List Phrase) → List A 
 clause k f [] = Optional (Word k) ∷ []
 clause k f (x ∷ xs) = Word k ∷ row f (x ∷ xs)
 
--- a clause that is placed where its word stands
+-- a clause that is placed where its word stands: where there is none, no word; where nothing follows, the word alone
 abbrev pub placed_clause : {A : Type 0} → Keyword → (A → List Phrase) → Option (Placed (List A)) → List Phrase
 placed_clause k f = maybe (λ c. At c.at (Word k) ∷ row f c.what)
 
@@ -219,7 +221,7 @@ result_type (Some k) = AType k ∷ []
 
 -- ---- lines
 
--- the phrase may be made of those
+-- the phrase may be made of those, one after another
 pub data Line : Phrase → List Phrase → Type 0 where
   absent : (p : Phrase) → Line (Optional p) []
   present : (p : Phrase) → Line (Optional p) (p ∷ [])
@@ -277,11 +279,11 @@ pub data Line : Phrase → List Phrase → Type 0 where
       → Line (Statement true (placed p.at (Z.Assign p op e))) (Place p ∷ OneToken kind ∷ Expression e ∷ Sign S.Semicolon ∷ [])
   call_alone : (n : Placed (List ℕ)) (es : List Expr)
       → Line (Statement true (placed n.at (Z.Call (placed n.at (X.Call n.what es))))) (call_of n es ++ Sign S.Semicolon ∷ [])
+  -- an `else` belongs to the nearest `if`, so what stands before one is closed; an `if` right after it is one more arm
   if_alone : (last : Bool) (at : ℕ) (arms : List (Expr × Stmt)) → Line (Statement false (placed at (Z.If arms None))) (Arms last at arms ∷ [])
   if_else : (closed : Bool) (at : ℕ) (arms : List (Expr × Stmt)) (s : Stmt) → IsNoIf s
       → Line (Statement closed (placed at (Z.If arms (Some s)))) (Arms true at arms ∷ Word K.Else ∷ Statement closed s ∷ [])
   first_arm : (closed : Bool) (at : ℕ) (e : Expr) (s : Stmt) → Line (Arms closed at ((e, s) ∷ [])) (At at (Word K.If) ∷ (condition e ++ Statement closed s ∷ []))
-  -- an `else` belongs to the nearest `if`
   next_arm : (closed : Bool) (at : ℕ) (arms : List (Expr × Stmt)) (e : Expr) (s : Stmt)
       → Line (Arms closed at (arms ++ (e, s) ∷ [])) (Arms true at arms ∷ Word K.Else ∷ Word K.If ∷ (condition e ++ Statement closed s ∷ []))
   while : (closed : Bool) (at : ℕ) (e : Expr) (s : Stmt)
@@ -313,7 +315,7 @@ pub data Line : Phrase → List Phrase → Type 0 where
   with_clauses : (x : Clauses) → Line (Ending x) (in_braces (clauses x))
   invocation : (v : Invocation) → Line (AnInvocation v)
       (At v.at (Head v.outputs v.alias) ∷ Sign S.Assign ∷ Name v.operator ∷ (in_parens (separated S.Semicolon (alone Input) v.inputs) ++ Ending v.clauses ∷ []))
-  -- definitions: the ports of a composite are outputs, inputs, or both in either order; `public` says nothing
+  -- definitions: the ports of a composite are outputs, inputs, both in either order, or none; `public` says nothing
   no_ports : Line (Ports [] []) []
   outputs_alone : (u : HeadPort) (us : List HeadPort) → Line (Ports (u ∷ us) []) (in_parens (ports K.Output (u ∷ us)))
   inputs_alone : (i : HeadPort) (is : List HeadPort) → Line (Ports [] (i ∷ is)) (in_parens (ports K.Input (i ∷ is)))

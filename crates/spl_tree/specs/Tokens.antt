@@ -1,4 +1,4 @@
--- The tokens of bytes: at each place the longest front that has the form of a token is taken.
+-- The tokens of bytes, with blanks and comments between them: each is the longest front of the bytes left that has the form of a token.
 use Rattle.std.specs.Prelude.{◌≡◌, ◌<◌, ◌≤◌, ℕ, zero, suc, ◌+◌, ◌-◌, ◌==◌, ◌&&◌, nat_lt, Bool, false, not, List, [], ◌∷◌, ◌++◌, length, take, drop, fold, Option, Some, None, option_map, unwrap_or, is_some, Result, Ok, Err, if◌then◌else◌}
 use Rattle.std.specs.Bool.{then_some}
 use Rattle.std.specs.List.{list_all, take_while, prefix_len}
@@ -17,7 +17,7 @@ use Rattle.spl_tree.specs.declared.token.TheConstants.{MOST_BYTES}
 use Rattle.spl_tree.specs.Bytes.{is_blank, is_letter, is_word_byte, is_quote, begins}
 use Rattle.spl_tree.specs.Words.{symbol_of, keyword_of}
 
--- why bytes are no tokens, and the place
+-- why bytes are no tokens, and the place, counted from the first of these bytes
 abbrev pub Refusal : Type 0
 Refusal = LexicalError × ℕ
 
@@ -121,7 +121,8 @@ text_kind (Err at) = Err (E.BadByte, at)
 
 -- The form of a token
 
--- the token that these bytes are, all of them, or why they are none and at which of their bytes; None where they have the form of no token
+-- the token that these bytes are, all of them; or why bytes of a token's form are refused, as a number too large or a text with a bad
+-- escape, and at which of them; None where they have the form of no token
 abbrev pub form : List ℕ → Option (Result TokenKind Refusal)
 form [] = None
 form (b ∷ bs) =
@@ -148,7 +149,7 @@ longest_front (suc n) bs = if is_formed (take (suc n) bs) then suc n else longes
 pub data Front : Type 0 where
   -- a token of this number of bytes
   Take : TokenKind → ℕ → Front
-  -- a gap of this number of bytes
+  -- a gap of this number of bytes; none at the end of the bytes
   Pass : ℕ → Front
   -- nothing that may stand there: why, and at which byte from here
   Refuse : LexicalError → ℕ → Front
@@ -158,7 +159,7 @@ abbrev pub as_front : ℕ → Result TokenKind Refusal → Front
 as_front n (Ok k) = Take k n
 as_front n (Err r) = Refuse r.0 r.1
 
--- after a number no letter, digit or `_` may stand
+-- whether the first n bytes are a number with a letter, digit or `_` after it
 abbrev pub is_run_on : List ℕ → ℕ → Bool
 is_run_on bs n = begins is_digit bs && begins is_word_byte (drop n bs)
 
@@ -175,7 +176,8 @@ abbrev pub comment_front : Option ℕ → Front
 comment_front None = Refuse E.OpenComment 0
 comment_front (Some n) = Pass (n + 2)
 
--- `//` up to the end of the line, and `/*` up to the next `*/`, are comments
+-- what stands at the front of bytes: a blank; a comment, `//` up to the end of the line or `/*` up to the next `*/`; or else a token
+-- or a refusal
 unfoldable pub front : List ℕ → Front
 front [] = Pass 0
 front (b ∷ bs) =
@@ -186,7 +188,7 @@ front (b ∷ bs) =
 
 -- The tokens
 
--- bytes that begin at a place are these tokens, and then end or are refused: none are left, or a gap, a token or a refusal stands at their front
+-- bytes from a place on are these tokens, and then end or have this refusal: none are left, or a gap, a token or a refusal stands at their front
 pub data Lexes : (at : ℕ) → List ℕ → List Token → Option Refusal → Type 0 where
   done : (at : ℕ) → Lexes at [] [] None
   gap : (at n : ℕ) (bs : List ℕ) (ts : List Token) (stop : Option Refusal) → front bs ≡ Pass n → Lexes (at + n) (drop n bs) ts stop
@@ -195,7 +197,7 @@ pub data Lexes : (at : ℕ) → List ℕ → List Token → Option Refusal → T
       → Lexes (at + n) (drop n bs) ts stop → Lexes at bs (record { kind = k; start = at; end = at + n } ∷ ts) stop
   refusal : (at i : ℕ) (e : LexicalError) (bs : List ℕ) → front bs ≡ Refuse e i → Lexes at bs [] (Some (e, at + i))
 
--- the tokens of a program, or its first refusal; that it is too long is looked at before all others
+-- the tokens of a program, or its first refusal; a program that is too long has no other one
 pub data IsLexed (bytes : List ℕ) : Result Tokens Refusal → Type 0 where
   too_long : MOST_BYTES < length bytes → IsLexed bytes (Err (E.TooLong, MOST_BYTES))
   whole : (ts : List Token) → length bytes ≤ MOST_BYTES → Lexes 0 bytes ts None → IsLexed bytes (Ok (record { list = ts; length = length bytes }))
