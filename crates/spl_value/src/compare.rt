@@ -1,6 +1,7 @@
 //! Equality and order of values.
 ghost use Rattle.std.specs.Prelude.{◌≡◌, ◌↔◌, IsTrue};
-ghost use Rattle.std.specs.Ordering.{ordering_reverse};
+ghost use Rattle.std.specs.Cmp.Lexicographic.{slice_cmp};
+ghost use Rattle.std.specs.Ordering.{nat_cmp, ordering_reverse};
 ghost use Rattle.spl_value.specs.Order.{value_cmp};
 
 use crate::Value;
@@ -13,12 +14,37 @@ pub fn same(a: &Value, b: &Value) -> bool
     a == b
 }
 
+/// The order of two texts: that of the first bytes that differ, or else of their lengths.
+fn order_bytes(a: &[u8], b: &[u8]) -> Ordering
+    ensures { result ≡ slice_cmp nat_cmp a.now b.now }
+{
+    let (mut left, mut right) = (a, b);
+    'bytes: while let [first, others @ ..] = left {
+        let [second, rest @ ..] = right else {
+            return Ordering::Greater;
+        };
+        if first != second {
+            return first.cmp(second);
+        }
+        left = others;
+        right = rest;
+    }
+    if right.is_empty() {
+        Ordering::Equal
+    } else {
+        Ordering::Less
+    }
+}
+
 /// The order of two values: integers by number, false before true, texts by bytes, lists, maps and
 /// tuples in dictionary order, and values of different variants in the order of the enum.
 pub fn order(a: &Value, b: &Value) -> Ordering
     ensures { result ≡ value_cmp a.now b.now }
 {
-    a.cmp(b)
+    match (a, b) {
+        (Value::Text(a), Value::Text(b)) => order_bytes(a.as_slice(), b.as_slice()),
+        _ => a.cmp(b),
+    }
 }
 
 /// The order of values is total, and two values are equal in it exactly where they are the same.
