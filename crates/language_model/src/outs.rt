@@ -37,6 +37,7 @@ impl Model for Outs {
 }
 
 impl Outs {
+    #[inline(always)]
     pub fn new(alloc: Global) -> Outs
         ensures { result ≡ [] }
     {
@@ -72,6 +73,7 @@ impl Outs {
     }
 
     /// Adds an output after the others. Where there is none yet, it takes no memory.
+    #[inline(always)]
     pub fn push(&mut self, output: Output) -> Result<(), AllocError>
         ensures ok { OnOk result (self.new ≡ self.old ++ output ∷ []) }
         ensures err { OnErr result (self.new ≡ self.old) }
@@ -112,6 +114,7 @@ impl Outs {
     }
 
     /// The outputs: the first one, where there is one, and the others, in their order. It takes no memory.
+    #[inline(always)]
     pub fn into_parts(self) -> (Option<Output>, Items<Output>)
         ensures all { option_to_list result.0 ++ result.1 ≡ self }
         ensures none { result.0 ≡ None → self ≡ [] }

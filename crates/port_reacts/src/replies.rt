@@ -25,6 +25,7 @@ pub fn on_each_port(alloc: Global, ports: usize, item: &Item) -> Result<Outs, No
 }
 
 /// Gives an item on the first output port, after those that are given before.
+#[inline(always)]
 pub fn give_first(outs: &mut Outs, item: Item) -> Result<(), NoMemory>
     ensures { IfOk result (λ _. outs.new ≡ outs.old ++ on_first item) }
 {
@@ -33,6 +34,7 @@ pub fn give_first(outs: &mut Outs, item: Item) -> Result<(), NoMemory>
 }
 
 /// The item on the first output port, after which the operator goes on.
+#[inline(always)]
 pub fn given_first(alloc: Global, item: Item) -> Reply
     ensures { GoesOn (on_first item) result }
 {
@@ -44,6 +46,7 @@ pub fn given_first(alloc: Global, item: Item) -> Reply
 }
 
 /// No item, after which the operator goes on.
+#[inline(always)]
 pub fn given_none(alloc: Global) -> Reply
     ensures { GoesOn [] result }
 {
