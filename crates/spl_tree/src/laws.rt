@@ -9,9 +9,9 @@ ghost use Rattle.spl_tree.specs.Laws.{LexedLaw, CutLaw, OneCutLaw, RiseLaw, OwnB
 ghost use Rattle.spl_tree.specs.Tokens.{tokens};
 ghost use Rattle.spl_tree.specs.Weights.{weights};
 
-/// A program has the tokens or the refusal that are computed of it, and no others. Its tokens cut its bytes, with blanks and comments between them, each the longest
-/// that could stand there, and no other tokens do. They stand one after another within the
-/// program, and the bytes of a token alone are that token.
+/// A program has the tokens or the refusal that are computed of it, and no others. Its tokens cut its bytes, with
+/// blanks and comments between them. Each is the longest that could stand there, and no other tokens cut the bytes
+/// so. They stand one after another within the program, and the bytes of a token alone are that token.
 pub fn tokens_law()
     ensures lexed { LexedLaw }
     ensures cut { CutLaw }

@@ -83,8 +83,8 @@ pub fn hash_key(tuple: &Values, key: &Places) -> u64
 
 /// A key has the value at each of its places, and a value of an integer type, `boolean` or
 /// `rstring` may stand there. Tuples with the same values at the key's places have the same bytes, and
-/// so have keys with the same places. Keys with other values of the same types have other bytes. Keys of other types may not: -1 of a signed type and
-/// 2^64 - 1 of `uint64` are the same 8 bytes.
+/// so have keys with the same places. Keys with other values of the same types have other bytes. Keys of
+/// other types may have the same: -1 of a signed type and 2^64 - 1 of `uint64` are the same 8 bytes.
 pub fn key_law()
     ensures places { KeyPlacesLaw }
     ensures types { KeyTypesLaw }

@@ -34,8 +34,8 @@ pub fn history_law()
     ensures inputs { PortsLaw }
 {}
 
-/// A longer list of events gives a longer stream: what an operator has given, no later event takes back. A closed stream ends the operator that reads it
-/// alone, and gives a closed one.
+/// A longer list of events gives a longer stream: what an operator has given, no later event takes back. A
+/// closed stream ends the operator that reads it alone, and gives a closed one.
 pub fn order_law()
     ensures out { OutGrows }
     ensures chain { ChainGrows }
@@ -142,7 +142,8 @@ pub fn text_on_literals()
         ≡ codes "\"a,\"\"b\"\"\"\n\"\"\n7\n" }
 {}
 
-/// The operators of checked graphs, with the attributes of their ports: a source and a sink that reads it, and a Split into two streams.
+/// The operators of checked graphs, with the attributes of their ports: a source and a sink that reads it, and
+/// a Split into two streams.
 pub fn graphs_of_operators()
     ensures sink { graph_of (after_source O.FileSink [] (A.FileSink (codes "out"))) ≡ (record {
       ops = record { number = 0; clauses = A.FileSource (codes "in") true; functions = []; types = record { ins = []; outs = texts ∷ [] }; ins = []; outs = 0 ∷ [] }
