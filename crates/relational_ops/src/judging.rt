@@ -24,6 +24,7 @@ pub(crate) enum Judged {
 }
 
 /// Whether a condition holds for a tuple, which comes back. The environment is idle before and after.
+#[inline(always)]
 pub(crate) fn judge(
     alloc: Global,
     at: &CheckedOperator<'_>,

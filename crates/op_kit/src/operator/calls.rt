@@ -76,6 +76,7 @@ impl<'c> React for Operator<'c> {
     ghost stands = { λ s h. StandsFor (⟦<Kind<'c> as OnPort>⟧.spec s.kind) (⟦<Kind<'c> as OnPort>⟧.stands s.kind) h
         s.connections.ports s.connections.open s.connections.left s.outputs };
 
+    #[inline(always)]
     fn on_item(&mut self, input: u32, item: Item) -> Reply {
         fits_law();
         ports_law();
