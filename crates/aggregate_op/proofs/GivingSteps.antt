@@ -1,15 +1,16 @@
 -- Groups and contents one by one.
-use Rattle.std.proofs.Common.{◌≡◌, List, [], ◌∷◌, ◌++◌, map, Option, Some, None, refl, sym, ap, ◌∙◌, append_assoc, append-nil}
+use Rattle.std.proofs.Common.{◌≡◌, List, [], ◌∷◌, ◌++◌, length, map, Option, Some, None, refl, sym, ap, ◌∙◌, append_assoc, append-nil}
 use Rattle.std.specs.Option.{option_and_then, option_map}
 use Rattle.spl_value.specs.declared.item.Item.TheVariants as I
 use Rattle.spl_value.specs.declared.value.Value.{Value}
 use Rattle.language_model.specs.declared.outs.Output.{Output}
 use Rattle.stream_model.specs.Bodies.{on_first}
+use Rattle.stream_model.specs.Groups.{groups}
+use Rattle.tuple_groups.proofs.Gathered.{one_group}
 use Rattle.window_policy.specs.declared.fired.FlushedContent.{FlushedContent}
 use Rattle.window_policy.specs.Answers.{entry_of}
 use Rattle.aggregate_op.specs.declared.clauses.Clauses.{Clauses}
 use Rattle.aggregate_op.specs.steps.Giving.{content_given, contents_given, groups_given, tuple_given}
-use Rattle.language_model.proofs.Options.{mapped}
 
 -- the first of several is there, where all are
 first_there : {X : Type 0} (f : X → List Output) (o : Option X) (rest : Option (List Output)) (outs all : List Output)
@@ -39,6 +40,16 @@ module _ (clauses : Clauses) where
   group_more g gs rest outs new all vs is t added e =
       first_more (λ t. on_first (I.Tuple t)) (tuple_given clauses g.1) (groups_given clauses rest) outs new all vs t added
       (ap (λ hs. option_map (λ more. outs ++ more) (groups_given clauses hs)) (sym is) ∙ e)
+
+  -- all tuples as one group give one tuple, where there are some
+  pub together_there : (us : List (List Value)) (given : List Output) → (length us ≡ 0 → ⊥) → groups_given clauses (groups [] us) ≡ Some given
+      → (vs : List Value) × (tuple_given clauses us ≡ Some vs) × (on_first (I.Tuple vs) ++ [] ≡ given)
+  together_there us given some e = by (tuple_given clauses us) (sym (ap (groups_given clauses) (one_group us some)) ∙ e)
+    where
+      by : (o : Option (List Value)) → option_and_then (λ t. option_map (λ outs. on_first (I.Tuple t) ++ outs) (Some [])) o ≡ Some given
+          → (vs : List Value) × (o ≡ Some vs) × (on_first (I.Tuple vs) ++ [] ≡ given)
+      by None e = absurd cc
+      by (Some vs) e = (vs, refl, let same : on_first (I.Tuple vs) ++ [] ≡ given = cc in same)
 
   pub content_there : (us : List (List Value)) (cs rest : List (List (List Value))) (outs all : List Output) → cs ≡ us ∷ rest
       → option_map (λ more. outs ++ more) (contents_given clauses cs) ≡ Some all → (given : List Output) × (content_given clauses us ≡ Some given)

@@ -1,10 +1,11 @@
 //! What an Aggregate gives for contents.
-ghost use Rattle.std.specs.Prelude.{◌≡◌, ◌++◌, IfOk, List, Some, map};
+ghost use Rattle.std.specs.Prelude.{◌≡◌, ◌++◌, [], IfOk, List, Some, map};
 ghost use Rattle.spl_value.specs.declared.item.Item.TheVariants as I;
 ghost use Rattle.spl_value.specs.declared.value.Value.{Value as V};
 ghost use Rattle.language_model.specs.declared.outs.Output.{Output as O};
 ghost use Rattle.stream_model.specs.Aggregates.{marker_after};
 ghost use Rattle.stream_model.specs.Bodies.{on_first};
+ghost use Rattle.stream_model.specs.Groups.{groups as groups_of};
 ghost use Rattle.tuple_groups.specs.Seen.{entry_of, seen};
 ghost use Rattle.aggregate_op.specs.steps.Giving.{AreGiven, content_given, contents_given, groups_given, tuple_given};
 
@@ -31,7 +32,7 @@ fn references<'a>(alloc: Global, tuples: &'a [Values]) -> Result<Vec<&'a Values>
 fn held<'a>(alloc: Global, content: &'a Content<'_>) -> Result<Vec<&'a Values>, NoMemory>
     ensures { IfOk result (λ refs. seen refs.items ≡ content.now) }
 {
-    let mut references = Vec::new(alloc);
+    let mut references = Vec::with_capacity(alloc, content.len() as usize)?;
     for i in 0..content.len() {
         references.push(content.at(i))?;
     }
@@ -68,6 +69,54 @@ fn give_groups(
     Ok(())
 }
 
+/// Gives the tuple of all tuples as one group, where there are some.
+fn give_together(
+    alloc: Global,
+    clauses: &Clauses<'_>,
+    tuples: &[&Values],
+    outs: &mut Outs,
+) -> Result<(), NoMemory>
+    requires { (given : List O) × (groups_given clauses.now (groups_of [] (seen tuples.now)) ≡ Some given) }
+    ensures { IfOk result (λ _. AreGiven (groups_given clauses.now (groups_of [] (seen tuples.now))) outs.old outs.new) }
+{
+    if tuples.is_empty() {
+        return Ok(());
+    }
+    give_group(alloc, clauses, tuples, outs)
+}
+
+/// Gives the tuples of the groups by the places of the clauses.
+fn give_by_places(
+    alloc: Global,
+    clauses: &Clauses<'_>,
+    tuples: &[&Values],
+    outs: &mut Outs,
+) -> Result<(), NoMemory>
+    requires { (given : List O) × (groups_given clauses.now (groups_of clauses.now.group.now (seen tuples.now)) ≡ Some given) }
+    ensures { IfOk result (λ _. AreGiven (groups_given clauses.now (groups_of clauses.now.group.now (seen tuples.now))) outs.old outs.new) }
+{
+    let groups = groups(alloc, clauses.group, tuples)?;
+    give_groups(alloc, clauses, groups.as_slice(), outs)?;
+    Ok(())
+}
+
+/// Gives the tuples of the groups of a content.
+fn give_grouped(
+    alloc: Global,
+    clauses: &Clauses<'_>,
+    tuples: &[&Values],
+    outs: &mut Outs,
+) -> Result<(), NoMemory>
+    requires { (given : List O) × (groups_given clauses.now (groups_of clauses.now.group.now (seen tuples.now)) ≡ Some given) }
+    ensures { IfOk result (λ _. AreGiven (groups_given clauses.now (groups_of clauses.now.group.now (seen tuples.now))) outs.old outs.new) }
+{
+    if clauses.group.is_empty() {
+        give_together(alloc, clauses, tuples, outs)
+    } else {
+        give_by_places(alloc, clauses, tuples, outs)
+    }
+}
+
 /// Gives a window marker after a content, where the window tumbles.
 fn give_marker(rule: WindowRule, outs: &mut Outs) -> Result<(), NoMemory>
     ensures { IfOk result (λ _. outs.new ≡ outs.old ++ marker_after rule) }
@@ -82,14 +131,13 @@ fn give_marker(rule: WindowRule, outs: &mut Outs) -> Result<(), NoMemory>
 fn give_content(
     alloc: Global,
     clauses: &Clauses<'_>,
-    tuples: Vec<&Values>,
+    tuples: &[&Values],
     outs: &mut Outs,
 ) -> Result<(), NoMemory>
-    requires { (given : List O) × (content_given clauses.now (seen tuples.items) ≡ Some given) }
-    ensures { IfOk result (λ _. AreGiven (content_given clauses.now (seen tuples.entry.items)) outs.old outs.new) }
+    requires { (given : List O) × (content_given clauses.now (seen tuples.now) ≡ Some given) }
+    ensures { IfOk result (λ _. AreGiven (content_given clauses.now (seen tuples.now)) outs.old outs.new) }
 {
-    let groups = groups(alloc, clauses.group, tuples)?;
-    give_groups(alloc, clauses, groups.as_slice(), outs)?;
+    give_grouped(alloc, clauses, tuples, outs)?;
     give_marker(clauses.window.rule, outs)?;
     Ok(())
 }
@@ -105,7 +153,7 @@ pub(crate) fn give_tuples(
     ensures { IfOk result (λ _. AreGiven (content_given clauses.now tuples.now) outs.old outs.new) }
 {
     let references = references(alloc, tuples)?;
-    give_content(alloc, clauses, references, outs)?;
+    give_content(alloc, clauses, references.as_slice(), outs)?;
     Ok(())
 }
 
@@ -120,7 +168,7 @@ pub(crate) fn give_held(
     ensures { IfOk result (λ _. AreGiven (content_given clauses.now content.now) outs.old outs.new) }
 {
     let references = held(alloc, content)?;
-    give_content(alloc, clauses, references, outs)?;
+    give_content(alloc, clauses, references.as_slice(), outs)?;
     Ok(())
 }
 

@@ -74,14 +74,6 @@ all_of_them [] = refl
 all_of_them (u ∷ us) = ap (λ ts. u ∷ ts) (all_of_them us)
 
 -- all tuples, where there are some, are one group
-one_group : (us : List (List Value)) → is_empty us ≡ false → ([], us) ∷ [] ≡ groups [] us
-one_group [] some = absurd cc
-one_group (u ∷ us) some = ap (λ ts. ([], ts) ∷ []) (sym (all_of_them (u ∷ us))) ∙ sym (one_key (of_group [] (u ∷ us)) us)
-
-pub all_seen : (refs : List (Bor (List Value))) → (length refs ≡ 0 → ⊥) → ([], seen refs) ∷ [] ≡ groups [] (seen refs)
-all_seen [] some = absurd (some refl)
-all_seen (r ∷ refs) some = one_group (seen (r ∷ refs)) refl
-
-pub none_seen : (refs : List (Bor (List Value))) → length refs ≡ 0 → [] ≡ groups [] (seen refs)
-none_seen [] none = refl
-none_seen (r ∷ refs) none = absurd (omega (arith, none))
+pub one_group : (us : List (List Value)) → (length us ≡ 0 → ⊥) → groups [] us ≡ ([], us) ∷ []
+one_group [] some = absurd (some refl)
+one_group (u ∷ us) some = one_key (of_group [] (u ∷ us)) us ∙ ap (λ ts. ([], ts) ∷ []) (all_of_them (u ∷ us))

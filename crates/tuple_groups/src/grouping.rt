@@ -1,5 +1,5 @@
 //! Groups of tuples by their keys.
-ghost use Rattle.std.specs.Prelude.{◌≡◌, ◌∷◌, ◌++◌, [], IfOk, List, length, map};
+ghost use Rattle.std.specs.Prelude.{◌≡◌, ◌∷◌, ◌++◌, [], IfOk, List, map};
 ghost use Rattle.spl_value.specs.declared.value.Value.{Value as V};
 ghost use Rattle.stream_model.specs.Groups.{groups as groups_of};
 ghost use Rattle.tuple_groups.specs.Seen.{entry_of, seen};
@@ -8,7 +8,7 @@ ghost use Rattle.tuple_groups.specs.steps.Gathering.{Gathers};
 use crate::keys::key_of;
 use indexmap::IndexMap;
 use key_maps::ascending;
-use spl_value::{Items, NoMemory, Places, Values};
+use spl_value::{NoMemory, Places, Values};
 use std::alloc::Global;
 
 /// A group of one tuple.
@@ -47,8 +47,9 @@ fn gather<'a>(
     Ok(())
 }
 
-/// The groups of tuples by their values at some places.
-fn by_places<'a>(
+/// The groups of tuples by their values at the places, each with its key, by ascending key. The tuples of a
+/// group stay in their order. Without places all tuples, where there are some, are one group with an empty key.
+pub fn groups<'a>(
     alloc: Global,
     places: &Places,
     tuples: &[&'a Values],
@@ -61,35 +62,4 @@ fn by_places<'a>(
     }
     let entries = ascending(alloc, gathered)?;
     Ok(entries)
-}
-
-/// All tuples as one group, where there are some.
-fn one_group<'a>(
-    alloc: Global,
-    tuples: Vec<&'a Values>,
-) -> Result<Vec<(Values, Vec<&'a Values>)>, NoMemory>
-    ensures { IfOk result (λ v. map entry_of v.items ≡ groups_of [] (seen tuples.entry.items)) }
-{
-    let mut entries = Vec::new(alloc);
-    if tuples.is_empty() {
-        return Ok(entries);
-    }
-    entries.push((Items::new(alloc), tuples))?;
-    Ok(entries)
-}
-
-/// The groups of tuples by their values at the places, each with its key, by ascending key. The tuples of a
-/// group stay in their order. Without places all tuples, where there are some, are one group.
-pub fn groups<'a>(
-    alloc: Global,
-    places: &Places,
-    tuples: Vec<&'a Values>,
-) -> Result<Vec<(Values, Vec<&'a Values>)>, NoMemory>
-    ensures { IfOk result (λ v. map entry_of v.items ≡ groups_of places.now (seen tuples.entry.items)) }
-{
-    if places.is_empty() {
-        one_group(alloc, tuples)
-    } else {
-        by_places(alloc, places, tuples.as_slice())
-    }
 }

@@ -5,7 +5,7 @@ use Rattle.tuple_groups.specs.Seen.{seen}
 use Rattle.key_maps.specs.MapKeys.{equal_key}
 use Rattle.tuple_groups.specs.steps.Gathering.{Gathers}
 use Rattle.tuple_groups.proofs.Gathered.{are_groups}
-use Rattle.tuple_groups.proofs.grouping.by_places.Goals as goal
+use Rattle.tuple_groups.proofs.grouping.groups.Goals as goal
 
 pub returns : goal.returns
 returns c =
