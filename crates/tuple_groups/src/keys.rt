@@ -20,7 +20,7 @@ fn push_at(alloc: Global, key: &mut Values, tuple: &Values, place: usize) -> Res
 pub fn key_of(alloc: Global, tuple: &Values, places: &Places) -> Result<Values, NoMemory>
     ensures { IfOk result (λ key. key ≡ key_by tuple.now places.now) }
 {
-    let mut key = Items::new(alloc);
+    let mut key = Items::with_capacity(alloc, places.len())?;
     for place in places.as_slice() {
         push_at(alloc, &mut key, tuple, *place as usize)?;
     }
