@@ -2,3 +2,4 @@ pub mod Deltas
 pub mod Parts
 pub mod Windows
 pub mod Marks
+pub mod Places

@@ -9,10 +9,11 @@ use Rattle.stream_model.specs.Windows.{WindowEvent, tuples_with, relevant, has_c
 use Rattle.window_policy.specs.declared.window.Window.{Window}
 use Rattle.window_policy.specs.Answers.{IsAllowed}
 use Rattle.key_maps.specs.MapKeys.{equal_key}
-use Rattle.window_policy.specs.steps.Parts.{At, noted_or}
+use Rattle.window_policy.specs.steps.Parts.{At, NewestAt, noted_or}
 
 pub record Stands (rule : WindowRule) (w : Window) (h : List WindowEvent) : Type 0 where
   pub by : w.policy.rule ≡ rule
   pub allowed : IsAllowed rule
   pub at : (k : List Value) → At rule (get equal_key w.parts k) (tuples_with k (relevant rule h))
   pub known : (k : List Value) → noted_or (flushes_at_markers rule) (contains equal_key w.known k) (is_some (get equal_key w.parts k)) ≡ has_come k h
+  pub newest : NewestAt w.parts w.place h

@@ -75,6 +75,7 @@ impl Window {
             policy: *policy,
             parts: IndexMap::new(alloc),
             known: IndexSet::new(alloc),
+            place: 0,
         })
     }
 
@@ -85,15 +86,29 @@ impl Window {
             → firing_of f (content_of rule key.now (Insert key.now tuple ∷ h)) ≡ tuple_fires rule key.now tuple h) }
         ensures stands { IfOk result (λ _. (rule h : _) → Stands rule self.old h → Stands rule self.new (Insert key.now tuple ∷ h)) }
     {
-        if let Some(part) = self.parts.get_mut(key) {
+        if let Some(place) = self.parts.get_index_of(key) {
+            self.place = place;
+            let (_, part) = self.parts.pair_mut(place);
             let fired = part.add(self.alloc, self.policy.rule, tuple)?;
             return Ok(fired);
         }
         let rule = self.policy.rule;
         let (part, fired) = begin(self.alloc, &mut self.known, rule, key, tuple)?;
         let own = copy_values(self.alloc, key.as_slice())?;
+        self.place = self.parts.len();
         self.parts.insert(own, part)?;
         Ok(fired)
+    }
+
+    /// What the window holds for the key of the newest tuple, where no marker came after it. The key isn't
+    /// looked up again.
+    pub fn newest_content(&self) -> Content<'_>
+        ensures { (rule key tuple h : _) → Stands rule self.now (Insert key tuple ∷ h) → result ≡ content_of rule key (Insert key tuple ∷ h) }
+    {
+        match self.parts.get_index(self.place) {
+            Some((_, part)) => Content::of(&part.kept),
+            None => Content::empty(),
+        }
     }
 
     /// Whether a key of which nothing is held came before.

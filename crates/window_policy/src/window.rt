@@ -12,6 +12,8 @@ pub struct Window {
     pub(crate) parts: IndexMap<Values, Part>,
     /// Where window markers flush, each key that came.
     pub(crate) known: IndexSet<Values>,
+    /// Where in `parts` the key of the newest tuple stands, where no marker came after it.
+    pub(crate) place: usize,
 }
 
 impl Drop for Window {
@@ -21,6 +23,7 @@ impl Drop for Window {
             policy: _,
             parts: _,
             known: _,
+            place: _,
         } = self;
     }
 }

@@ -1,11 +1,12 @@
 //! What the events of an Aggregate cause.
-ghost use Rattle.std.specs.Prelude.{◌≡◌, ◌∷◌, ◌++◌, [], true, IfOk, List, Some, length};
+ghost use Rattle.std.specs.Prelude.{◌≡◌, ◌∷◌, ◌++◌, [], IfOk, List, Some, length};
+ghost use Rattle.spl_value.specs.declared.value.Value.{Value as V};
 ghost use Rattle.language_model.specs.declared.checked.WindowRule.{WindowRule as Rule};
 ghost use Rattle.language_model.specs.declared.outs.Output.{Output as O};
 ghost use Rattle.stream_model.specs.Aggregates.{marker_passed};
 ghost use Rattle.stream_model.specs.Bodies.{at_tuple};
 ghost use Rattle.stream_model.specs.React.{answer};
-ghost use Rattle.stream_model.specs.Windows.{Insert, Mark, WindowEvent, content, contents_of, fired_contents, has_come};
+ghost use Rattle.stream_model.specs.Windows.{Insert, Mark, WindowEvent, content, contents_of, fired_contents};
 ghost use Rattle.window_policy.specs.Answers.{firing_of};
 ghost use Rattle.window_policy.specs.Standing.{Stands};
 ghost use Rattle.port_reacts.specs.Bodies.{RepliesTo, RepliesToItem};
@@ -61,41 +62,33 @@ fn given_content(
     Ok(outs)
 }
 
-/// What the content gives that stays in the window of a key.
-fn given_held(
-    alloc: Global,
-    clauses: &Clauses<'_>,
-    window: &Window,
-    key: &Values,
-) -> Result<Outs, NoMemory>
-    requires { (rule : Rule) × (h : List WindowEvent) × (given : List O) × Stands rule window.now h
-        × (contents_given clauses.now (content rule key.now h ∷ []) ≡ Some given) }
-    ensures { IfOk result (λ outs. (rule : Rule) (h : List WindowEvent) → Stands rule window.now h → has_come key.now h ≡ true
-        → contents_given clauses.now (content rule key.now h ∷ []) ≡ Some outs) }
+/// What the content of the newest tuple's key gives, which stays in its window.
+fn given_newest(alloc: Global, clauses: &Clauses<'_>, window: &Window) -> Result<Outs, NoMemory>
+    requires { (rule : Rule) × (key tuple : List V) × (h : List WindowEvent) × (given : List O) × Stands rule window.now (Insert key tuple ∷ h)
+        × (contents_given clauses.now (content rule key (Insert key tuple ∷ h) ∷ []) ≡ Some given) }
+    ensures { IfOk result (λ outs. (rule : Rule) (key tuple : List V) (h : List WindowEvent) → Stands rule window.now (Insert key tuple ∷ h)
+        → contents_given clauses.now (content rule key (Insert key tuple ∷ h) ∷ []) ≡ Some outs) }
 {
-    match window.content(key) {
-        Some(content) => given_content(alloc, clauses, &content),
-        None => Ok(Outs::new(alloc)),
-    }
+    let content = window.newest_content();
+    given_content(alloc, clauses, &content)
 }
 
-/// What an insertion under a key gives that fires so.
+/// What the insertion of the newest tuple gives, which fires so.
 fn given_fired(
     alloc: Global,
     clauses: &Clauses<'_>,
     window: &Window,
-    key: &Values,
     fired: Fired,
 ) -> Result<Outs, NoMemory>
-    requires { (rule : Rule) × (h : List WindowEvent) × (given : List O) × Stands rule window.now h
-        × (contents_given clauses.now (contents_of (firing_of fired (content rule key.now h))) ≡ Some given) }
-    ensures { IfOk result (λ outs. (rule : Rule) (h : List WindowEvent) → Stands rule window.now h → has_come key.now h ≡ true
-        → contents_given clauses.now (contents_of (firing_of fired (content rule key.now h))) ≡ Some outs) }
+    requires { (rule : Rule) × (key tuple : List V) × (h : List WindowEvent) × (given : List O) × Stands rule window.now (Insert key tuple ∷ h)
+        × (contents_given clauses.now (contents_of (firing_of fired (content rule key (Insert key tuple ∷ h)))) ≡ Some given) }
+    ensures { IfOk result (λ outs. (rule : Rule) (key tuple : List V) (h : List WindowEvent) → Stands rule window.now (Insert key tuple ∷ h)
+        → contents_given clauses.now (contents_of (firing_of fired (content rule key (Insert key tuple ∷ h)))) ≡ Some outs) }
 {
     match fired {
         Fired::No => Ok(Outs::new(alloc)),
         Fired::Whole(tuples) => given_whole(alloc, clauses, tuples),
-        Fired::Stays => given_held(alloc, clauses, window, key),
+        Fired::Stays => given_newest(alloc, clauses, window),
     }
 }
 
@@ -113,7 +106,7 @@ fn fire(
     ensures stands { IfOk result (λ _. (rule : Rule) (h : List WindowEvent) → Stands rule window.old h → Stands rule window.new (Insert key tuple ∷ h)) }
 {
     let fired = window.insert(&key, tuple)?;
-    let outs = given_fired(alloc, clauses, window, &key, fired)?;
+    let outs = given_fired(alloc, clauses, window, fired)?;
     Ok(outs)
 }
 

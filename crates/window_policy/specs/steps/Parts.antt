@@ -1,10 +1,11 @@
 -- What is kept of each key.
-use Rattle.std.specs.Prelude.{ℕ, Bool, true, cond, ◌<◌, ◌%◌, List, [], ◌≡◌, length, Option, Some, None}
+use Rattle.std.specs.Prelude.{ℕ, Bool, true, cond, ◌<◌, ◌%◌, List, [], ◌∷◌, ◌≡◌, length, slice_get, Option, Some, None}
+use Rattle.indexmap.specs.IndexMap.{IndexMap, get, values}
 use Rattle.indexmap.specs.IndexSet.{IndexSet, contains}
 use Rattle.spl_value.specs.declared.value.Value.{Value}
 use Rattle.language_model.specs.declared.checked.WindowRule.{WindowRule}
 use Rattle.language_model.specs.declared.checked.WindowRule.TheVariants as W
-use Rattle.stream_model.specs.Windows.{held}
+use Rattle.stream_model.specs.Windows.{WindowEvent, Insert, Mark, held}
 use Rattle.window_policy.specs.declared.part.Part.{Part}
 use Rattle.window_policy.specs.steps.Deltas.{Rises}
 use Rattle.key_maps.specs.MapKeys.{equal_key}
@@ -39,6 +40,12 @@ pub record Keeps (rule : WindowRule) (part : Part) (ts : List (List Value)) : Ty
 abbrev pub At : WindowRule → Option Part → List (List Value) → Type 0
 At rule None ts = ts ≡ []
 At rule (Some part) ts = Keeps rule part ts × (0 < length ts)
+
+-- the place of the key of the newest tuple, where no marker came after it
+abbrev pub NewestAt : {S : Type 0} → IndexMap (List Value) Part S → ℕ → List WindowEvent → Type 0
+NewestAt parts place [] = Unit {0}
+NewestAt parts place (Mark ∷ h) = Unit {0}
+NewestAt parts place (Insert key t ∷ h) = slice_get (values parts) place ≡ get equal_key parts key
 
 -- whether a key came: it is noted where markers flush, and elsewhere something is kept for it
 abbrev pub noted_or : Bool → Bool → Bool → Bool

@@ -1,7 +1,6 @@
-use Rattle.std.proofs.Common.{◌∷◌, ap, sym, ◌∙◌}
-use Rattle.stream_model.specs.Windows.{Insert, contents_of}
+use Rattle.std.proofs.Common.{ap, sym, ◌∙◌}
+use Rattle.stream_model.specs.Windows.{contents_of}
 use Rattle.aggregate_op.specs.steps.Giving.{contents_given}
-use Rattle.aggregate_op.proofs.FiringSteps.{come_now}
 use Rattle.aggregate_op.proofs.aggregate.events.fire.Goals as goal
 
 pub given_fired-requires : goal.given_fired-requires
@@ -9,7 +8,9 @@ given_fired-requires c =
     let t = c.requires in
     let x = c.args.clauses.now in (
       t.0,
-      Insert c.args.key c.args.tuple ∷ t.1,
+      c.args.key,
+      c.args.tuple,
+      t.1,
       t.2,
       c.in_ok-fired.ensures.stands t.0 t.1 t.3,
       ap (λ f. contents_given x (contents_of f)) (c.in_ok-fired.ensures.fires t.0 t.1 t.3) ∙ t.4,
@@ -19,4 +20,4 @@ pub returns-clause-outs : goal.returns-clause-outs
 returns-clause-outs c rule h stood =
     let x = c.args.clauses.now in
     ap (λ f. contents_given x (contents_of f)) (sym (c.in_ok-fired.ensures.fires rule h stood))
-    ∙ c.in_ok-outs.ensures rule (Insert c.args.key c.args.tuple ∷ h) (c.in_ok-fired.ensures.stands rule h stood) (come_now c.args.key c.args.tuple h)
+    ∙ c.in_ok-outs.ensures rule c.args.key c.args.tuple h (c.in_ok-fired.ensures.stands rule h stood)

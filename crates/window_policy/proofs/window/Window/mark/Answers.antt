@@ -28,4 +28,5 @@ returns-in_ok-flushed-in-TumblingPunct-clause-stands c rule h stood =
           ap (λ r. noted_or (flushes_at_markers r) (known k) (is_some (get equal_key c.replace-parts.new.dest k))) is
           ∙ sym (ap (λ r. noted_or (flushes_at_markers r) (known k) (is_some (get equal_key c.args.self.now.parts k))) is)
           ∙ stood.known k;
+      newest = tt;
     }

@@ -4,6 +4,9 @@ use Rattle.op_kit.proofs.kind.calls.KindOnPort.on_port.Goals as goal
 pub on_port-requires-in-Aggregate : goal.on_port-requires-in-Aggregate
 on_port-requires-in-Aggregate c = rw c.deref_mut-in-Aggregate.ensures.value (search rules)
 
+pub on_port-requires-in-Join : goal.on_port-requires-in-Join
+on_port-requires-in-Join c = rw c.deref_mut-in-Join.ensures.value (search rules)
+
 pub returns-in-Sink-clause-same : goal.returns-in-Sink-clause-same
 returns-in-Sink-clause-same c = rw c.in-Sink.is (rw (sym c.deref_mut.ensures.value) c.on_port.ensures.same)
 
