@@ -1,11 +1,11 @@
 -- A number of more than 18 digits is above every limit.
-use Rattle.std.proofs.Common.{◌≡◌, ◌<◌, ◌≤◌, ◌*◌, ◌^◌, ◌==◌, ◌||◌, ◌&&◌, ℕ, Bool, true, false, List, [], ◌∷◌, length, fold, nat_lt, refl, ap, arith, lit<, Some, None}
-use Rattle.std.specs.Prelude.{Option, IfSome, if◌then◌else◌}
+use Rattle.std.proofs.Common.{◌≡◌, ◌<◌, ◌≤◌, ◌*◌, ◌^◌, ◌==◌, ◌||◌, ◌&&◌, ℕ, Bool, true, false, List, [], ◌∷◌, length, fold, nat_le, nat_lt, refl, ap, arith, lit<, Some, None}
+use Rattle.std.specs.Prelude.{Option, IfSome, option_and_then, if◌then◌else◌}
 use Rattle.std.specs.List.{list_all}
 use Rattle.std.proofs.Math.Nat.{pow-succ', pow-le-pow_right, mul-le-mul_right}
 use Rattle.std.proofs.lemmas.Bool.Decides.{nat_tests}
 use Rattle.spl_value.specs.Decimal.{is_digit, digit_step, natural}
-use Rattle.command_line.specs.Options.{spelled_number, within, number_within}
+use Rattle.command_line.specs.Options.{spelled_number, number_within}
 
 -- each digit after a number makes it at least ten times as large
 fold_digits : (n : ℕ) (bytes : List ℕ) → n * 10 ^ length bytes ≤ fold digit_step n bytes
@@ -40,7 +40,8 @@ number_large (b ∷ []) h = absurd (omega arith)
 number_large (b ∷ c ∷ bytes) h =
     unless (b == 48) (nat_lt 19 (length (b ∷ c ∷ bytes))) (natural (b ∷ c ∷ bytes)) (λ n. 10 ^ 18 ≤ n) (natural_large b (c ∷ bytes) (omega arith))
 
-within_large : (least most : ℕ) (o : Option ℕ) → most < 10 ^ 18 → IfSome o (λ n. 10 ^ 18 ≤ n) → within least most o ≡ None
+within_large : (least most : ℕ) (o : Option ℕ) → most < 10 ^ 18 → IfSome o (λ n. 10 ^ 18 ≤ n)
+    → option_and_then (λ n. if nat_le least n && nat_le n most then Some n else None) o ≡ None
 within_large least most None h large = refl
 within_large least most (Some n) h large = grind (arith, nat_tests)
 

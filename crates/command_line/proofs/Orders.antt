@@ -117,23 +117,23 @@ module _ (us xs ys vs : List Argument) where
   same_with C.Run file = λ i.
       run_of
       file
-      (read_by (number_within 1 16) (picked (value_of (codes "width")) i))
-      (read_by (number_within 1 64) (picked (value_of (codes "workers")) i))
-      (read_by (number_within 18 4096) (picked (value_of (codes "capacity")) i))
-      (read_by (other_than file) (picked (value_of (codes "arrivals")) i))
+      (option_and_then (read_by (number_within 1 16)) (picked (value_of (codes "width")) i))
+      (option_and_then (read_by (number_within 1 64)) (picked (value_of (codes "workers")) i))
+      (option_and_then (read_by (number_within 18 4096)) (picked (value_of (codes "capacity")) i))
+      (option_and_then (read_by (other_than file)) (picked (value_of (codes "arrivals")) i))
       (option_map is_some (flags i))
-  same_with C.Replay file = λ i. option_map (Replay file) (option_flatten (read_by (other_than file) (picked (value_of (codes "arrivals")) i)))
+  same_with C.Replay file = λ i. option_map (Replay file) (option_flatten (option_and_then (read_by (other_than file)) (picked (value_of (codes "arrivals")) i)))
   same_with C.Simulate file = λ i.
       simulate_of
       file
-      (option_flatten (read_by (number_within 1 16) (picked (value_of (codes "width")) i)))
-      (option_flatten (read_by (number_within 0 2147483647) (picked (value_of (codes "schedule")) i)))
-      (read_by (number_within 1 1000000000) (picked (value_of (codes "steps")) i))
+      (option_flatten (option_and_then (read_by (number_within 1 16)) (picked (value_of (codes "width")) i)))
+      (option_flatten (option_and_then (read_by (number_within 0 2147483647)) (picked (value_of (codes "schedule")) i)))
+      (option_and_then (read_by (number_within 1 1000000000)) (picked (value_of (codes "steps")) i))
   same_with C.Make file = λ i.
       make_of
       file
-      (option_flatten (read_by (number_within 0 10000000) (picked (value_of (codes "rows")) i)))
-      (option_flatten (read_by (number_within 0 2147483647) (picked (value_of (codes "start")) i)))
+      (option_flatten (option_and_then (read_by (number_within 0 10000000)) (picked (value_of (codes "rows")) i)))
+      (option_flatten (option_and_then (read_by (number_within 0 2147483647)) (picked (value_of (codes "start")) i)))
 
   same_given : (command : Command) → request_given command one ≡ request_given command other
   same_given command = λ i. if all (λ argument. is_of command argument) i then option_and_then (λ file. same_with command file i) (option_flatten (picked file_of i)) else None

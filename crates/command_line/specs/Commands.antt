@@ -16,23 +16,18 @@ command_of word =
     if bytes_eq word (codes "simulate") then Some Simulate else
     if bytes_eq word (codes "make") then Some Make else None
 
--- the options with a value
+-- the options with a value, which `check` and `plan` have none of
 abbrev pub options_of : Command → List (List ℕ)
-options_of Check = []
-options_of Plan = []
 options_of Run = codes "width" ∷ codes "workers" ∷ codes "capacity" ∷ codes "arrivals" ∷ []
 options_of Replay = codes "arrivals" ∷ []
 options_of Simulate = codes "width" ∷ codes "schedule" ∷ codes "steps" ∷ []
 options_of Make = codes "rows" ∷ codes "start" ∷ []
+options_of _ = []
 
 -- `--counts` is an option of `run` alone
 abbrev pub has_counts : Command → Bool
-has_counts Check = false
-has_counts Plan = false
 has_counts Run = true
-has_counts Replay = false
-has_counts Simulate = false
-has_counts Make = false
+has_counts _ = false
 
 -- a file name, or one of the command's options
 abbrev pub is_of : Command → Argument → Bool

@@ -1,14 +1,14 @@
 -- What the words of the command line ask for. The first word is the command. After it come one file name and the options
 -- of the command, in any order, each option at most once and some of them always. Other words are no request.
 use Rattle.std.specs.Prelude.{ℕ, Bool, List, [], ◌∷◌, unwrap_or, codes, Option, Some, None, option_and_then, if◌then◌else◌}
-use Rattle.std.specs.List.{list_all, cons_option}
-use Rattle.std.specs.Option.{option_map}
+use Rattle.std.specs.List.{list_all}
+use Rattle.std.specs.Option.{option_map, option_to_list}
 use Rattle.std.specs.Str.{bytes_eq}
 use Rattle.std.specs.declared.string.String.{String}
 use Rattle.std.specs.declared.alloc.Global.{Global}
 use Rattle.command_line.specs.Arguments.{arguments, texts}
 use Rattle.command_line.specs.Commands.{command_of, is_of}
-use Rattle.command_line.specs.Options.{files, values, only, counts, optional, required, number_within}
+use Rattle.command_line.specs.Options.{only_file, counts, optional, required, number_within}
 use Rattle.command_line.specs.declared.arguments.Argument.{Argument}
 use Rattle.command_line.specs.declared.commands.Command.{Command}
 use Rattle.command_line.specs.declared.commands.Command.TheVariants as C
@@ -42,27 +42,27 @@ request_with C.Plan given program = Some (Plan program)
 request_with C.Run given program =
     run_of
     program
-    (optional (number_within 1 16) (values (codes "width") given))
-    (optional (number_within 1 64) (values (codes "workers") given))
-    (optional (number_within 18 4096) (values (codes "capacity") given))
-    (optional (other_than program) (values (codes "arrivals") given))
+    (optional (number_within 1 16) (codes "width") given)
+    (optional (number_within 1 64) (codes "workers") given)
+    (optional (number_within 18 4096) (codes "capacity") given)
+    (optional (other_than program) (codes "arrivals") given)
     (counts given)
-request_with C.Replay given program = option_map (Replay program) (required (other_than program) (values (codes "arrivals") given))
+request_with C.Replay given program = option_map (Replay program) (required (other_than program) (codes "arrivals") given)
 request_with C.Simulate given program =
     simulate_of
     program
-    (required (number_within 1 16) (values (codes "width") given))
-    (required (number_within 0 2147483647) (values (codes "schedule") given))
-    (optional (number_within 1 1000000000) (values (codes "steps") given))
+    (required (number_within 1 16) (codes "width") given)
+    (required (number_within 0 2147483647) (codes "schedule") given)
+    (optional (number_within 1 1000000000) (codes "steps") given)
 request_with C.Make given name =
     make_of
     name
-    (required (number_within 0 10000000) (values (codes "rows") given))
-    (required (number_within 0 2147483647) (values (codes "start") given))
+    (required (number_within 0 10000000) (codes "rows") given)
+    (required (number_within 0 2147483647) (codes "start") given)
 
 -- each argument is the one file name or an option of the command
 abbrev pub request_given : Command → List Argument → Option Request
-request_given command given = if list_all (λ argument. is_of command argument) given then option_and_then (request_with command given) (only (files given)) else None
+request_given command given = if list_all (λ argument. is_of command argument) given then option_and_then (request_with command given) (only_file given) else None
 
 -- the first word is the command, and the others are its arguments
 abbrev pub requested : List (List ℕ) → Option Request
@@ -77,7 +77,7 @@ request_of words = requested (texts words)
 abbrev pub file_names : Request → List (List ℕ)
 file_names (Check program) = program ∷ []
 file_names (Plan program) = program ∷ []
-file_names (Run program options) = program ∷ cons_option options.arrivals []
+file_names (Run program options) = program ∷ option_to_list options.arrivals
 file_names (Replay program arrivals) = program ∷ arrivals ∷ []
 file_names (Simulate program width schedule steps) = program ∷ []
 file_names (Make name rows start) = []

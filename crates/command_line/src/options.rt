@@ -1,14 +1,15 @@
 //! What is given among the arguments of a command.
 ghost use Rattle.std.specs.Prelude.{◌≡◌};
+ghost use Rattle.std.specs.List.{filter_map};
 ghost use Rattle.std.specs.Option.{option_map, option_copied};
-ghost use Rattle.command_line.specs.Options.{files, value_of, values, at_most_one, only, counts, optional, required, leads_with_zero, number_within};
+ghost use Rattle.command_line.specs.Options.{value_of, at_most_one, only_file, counts, optional, required, leads_with_zero, number_within};
 
 use crate::arguments::{Argument, Arguments};
 use spl_value::{Bytes, Name, read_natural};
 
 /// The file name, if there is one and not several.
 pub(crate) fn only_file(given: &Arguments) -> Option<&Name>
-    ensures { option_copied result ≡ only (files given.now) }
+    ensures { option_copied result ≡ only_file given.now }
 {
     let mut file = None;
     for argument in given.as_slice() {
@@ -33,7 +34,8 @@ fn value_of<'a>(option: &[u8], argument: &'a Argument) -> Option<&'a Bytes>
 
 /// The value of an option, if it is given; `None` where it is given several times.
 pub(crate) fn value_given<'a>(given: &'a Arguments, option: &[u8]) -> Option<Option<&'a Bytes>>
-    ensures { option_map option_copied result ≡ at_most_one (values option.now given.now) }
+    ensures { option_map option_copied result
+        ≡ at_most_one (filter_map (value_of option.now) given.now) }
 {
     let mut found = None;
     for argument in given.as_slice() {
@@ -93,7 +95,7 @@ pub(crate) fn optional_number(
     least: u32,
     most: u32,
 ) -> Option<Option<u32>>
-    ensures { result ≡ optional (number_within least most) (values option.now given.now) }
+    ensures { result ≡ optional (number_within least most) option.now given.now }
 {
     match value_given(given, option)? {
         None => Some(None),
@@ -108,7 +110,7 @@ pub(crate) fn required_number(
     least: u32,
     most: u32,
 ) -> Option<u32>
-    ensures { result ≡ required (number_within least most) (values option.now given.now) }
+    ensures { result ≡ required (number_within least most) option.now given.now }
 {
     optional_number(given, option, least, most).flatten()
 }

@@ -1,7 +1,6 @@
 //! What the words of the command line ask for.
-ghost use Rattle.std.specs.Prelude.{◌≡◌, [], ◌∷◌, codes, IfOk};
-ghost use Rattle.std.specs.List.{cons_option};
-ghost use Rattle.std.specs.Option.{option_map, option_flatten, option_copied};
+ghost use Rattle.std.specs.Prelude.{◌≡◌, ◌∷◌, codes, IfOk};
+ghost use Rattle.std.specs.Option.{option_map, option_flatten, option_copied, option_to_list};
 
 use crate::arguments::{Arguments, read_arguments};
 use crate::commands::{Command, are_of, command_of};
@@ -53,7 +52,7 @@ pub enum Request {
 }
 
 ghost use Rattle.command_line.specs.Arguments.{arguments};
-ghost use Rattle.command_line.specs.Options.{values, optional};
+ghost use Rattle.command_line.specs.Options.{optional};
 ghost use Rattle.command_line.specs.Request.{other_than, run_of, simulate_of, make_of, request_with, request_given, request_of, file_names};
 
 // The arrivals file, if it is given. The outer `None` is no such option: it is given several times,
@@ -64,7 +63,7 @@ fn arrivals_of(
     program: &Name,
 ) -> Result<Option<Option<Name>>, NoMemory>
     ensures { IfOk result (λ found.
-        found ≡ optional (other_than program.now) (values (codes "arrivals") given.now)) }
+        found ≡ optional (other_than program.now) (codes "arrivals") given.now) }
 {
     match value_given(given, b"arrivals") {
         None => Ok(None),
@@ -208,7 +207,7 @@ pub fn read_request(alloc: Global, words: &[String]) -> Result<Option<Request>, 
 
 // One file name, and another where there is one.
 fn names_of(alloc: Global, first: &Name, second: Option<&Name>) -> Result<Items<Name>, NoMemory>
-    ensures { IfOk result (λ names. names ≡ first.now ∷ cons_option (option_copied second.entry) []) }
+    ensures { IfOk result (λ names. names ≡ first.now ∷ option_to_list (option_copied second.entry)) }
 {
     let mut names = Items::new(alloc);
     names.push(Items::from_slice(alloc, first.as_slice())?)?;
