@@ -26,8 +26,7 @@ read_schema c n = option_map_or (λ op. first_schema c (unwrap_or (slice_get op.
 
 -- those of the stream that a region of these operators reads, which are the first one's
 abbrev pub region_schema : CheckedGraph → List ℕ → Attributes
-region_schema c [] = []
-region_schema c (n ∷ ns) = read_schema c n
+region_schema c ops = option_map_or (read_schema c) (slice_get ops 0) []
 
 -- an attribute's name; nothing where there is no such attribute
 abbrev pub attribute_name : Attributes → ℕ → List ℕ
@@ -49,8 +48,7 @@ region_text c number region =
 
 -- it is the first of these
 abbrev pub is_first : ℕ → List ℕ → Bool
-is_first n [] = false
-is_first n (m ∷ ms) = m == n
+is_first n ops = option_map_or (λ m. m == n) (slice_get ops 0) false
 
 -- the lines of the regions that it begins, where the first of all these regions has this number
 abbrev pub begun_text : CheckedGraph → ℕ → ℕ → List Region → List ℕ
@@ -61,13 +59,11 @@ begun_text c n number (region ∷ regions) =
 abbrev pub stands_in : ℕ → Region → Bool
 stands_in n region = list_any (λ m. m == n) region.ops
 
-abbrev pub single_text : CheckedGraph → ℕ → List ℕ
-single_text c n = codes "single " ++ operator_name (Some c) n ++ codes "\n"
-
 -- an operator that stands in a region has that region's line if it is the first there, and none if it is another one. Any other
 -- operator has a line of its own
 abbrev pub operator_text : CheckedGraph → List Region → ℕ → List ℕ
-operator_text c plan n = if list_any (stands_in n) plan then begun_text c n 0 plan else single_text c n
+operator_text c plan n =
+    if list_any (stands_in n) plan then begun_text c n 0 plan else codes "single " ++ operator_name (Some c) n ++ codes "\n"
 
 -- ---- a plan
 

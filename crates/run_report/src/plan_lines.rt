@@ -2,7 +2,7 @@
 ghost use Rattle.std.specs.Prelude.{◌≡◌, ◌++◌, flat_map, codes, Some, IfOk, OnOk};
 ghost use Rattle.std.specs.List.{list_any};
 ghost use Rattle.run_report.specs.Texts.{operator_name};
-ghost use Rattle.run_report.specs.PlanTexts.{merge_text, read_schema, region_schema, attribute_name, key_text, region_text, is_first, begun_text, stands_in, single_text, operator_text, plan_text};
+ghost use Rattle.run_report.specs.PlanTexts.{merge_text, read_schema, region_schema, attribute_name, key_text, region_text, is_first, begun_text, stands_in, operator_text, plan_text};
 
 use crate::status::operator;
 use itoa::Buffer;
@@ -169,7 +169,8 @@ fn is_in_some(op: u32, regions: &[Region]) -> bool
 
 // Adds the line of an operator that stands in no region.
 fn add_single(text: &mut Vec<u8>, checked: &Checked, op: u32) -> Result<(), NoMemory>
-    ensures { OnOk result (text.new.items ≡ text.old.items ++ single_text checked.now op) }
+    ensures { OnOk result (text.new.items ≡ text.old.items
+        ++ codes "single " ++ operator_name (Some checked.now) op ++ codes "\n") }
 {
     text.extend_from_slice(b"single ")?;
     text.extend_from_slice(operator(Some(checked), op))?;

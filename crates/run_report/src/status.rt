@@ -1,7 +1,7 @@
 //! The line that tells why the program ended.
-ghost use Rattle.std.specs.Prelude.{◌≡◌, [], if◌then◌else◌, IfOk};
+ghost use Rattle.std.specs.Prelude.{◌≡◌, ◌++◌, codes, None, if◌then◌else◌, IfOk};
 ghost use Rattle.std.specs.Option.{option_copied};
-ghost use Rattle.run_report.specs.Texts.{lexical_code, expansion_code, check_code, code_text, has_name, names_expansion, names_check, name_text, refusal_text, kind_text, has_line, stopped_text, bad_arrivals_text, operator_name, named_text, status_text};
+ghost use Rattle.run_report.specs.Texts.{code_text, has_name, refusal_text, kind_text, has_line, stopped_text, operator_name, status_text};
 
 use crate::{Cause, Code, ExpansionError, Refusal};
 use itoa::Buffer;
@@ -12,7 +12,7 @@ use std::alloc::Global;
 
 // The code of bytes that are no tokens.
 fn lexical_code(error: LexicalError) -> &'static [u8]
-    ensures { result.now ≡ lexical_code error }
+    ensures { result.now ≡ code_text (Code.Lexical error) }
 {
     match error {
         LexicalError::BadByte => b"L1",
@@ -25,7 +25,7 @@ fn lexical_code(error: LexicalError) -> &'static [u8]
 
 // The code of composites that don't expand to a graph.
 fn expansion_code(error: ExpansionError) -> &'static [u8]
-    ensures { result.now ≡ expansion_code error }
+    ensures { result.now ≡ code_text (Code.Expansion error) }
 {
     match error {
         ExpansionError::NoMain => b"E1",
@@ -41,7 +41,7 @@ fn expansion_code(error: ExpansionError) -> &'static [u8]
 
 // The code of a graph whose types or clauses don't fit.
 fn check_code(error: CheckError) -> &'static [u8]
-    ensures { result.now ≡ check_code error }
+    ensures { result.now ≡ code_text (Code.Check error) }
 {
     match error {
         CheckError::Unknown => b"Y1",
@@ -74,7 +74,7 @@ fn code(code: Code) -> &'static [u8]
 
 // Whether a refusal by the expansion is told with its name.
 fn names_expansion(error: ExpansionError) -> bool
-    ensures { result ≡ names_expansion error }
+    ensures { result ≡ has_name (Code.Expansion error) }
 {
     match error {
         ExpansionError::NoMain | ExpansionError::TooMany => false,
@@ -89,7 +89,7 @@ fn names_expansion(error: ExpansionError) -> bool
 
 // Whether a refusal by the rules of types and clauses is told with its name.
 fn names_check(error: CheckError) -> bool
-    ensures { result ≡ names_check error }
+    ensures { result ≡ has_name (Code.Check error) }
 {
     match error {
         CheckError::Unknown
@@ -120,8 +120,7 @@ fn has_name(code: Code) -> bool
 
 // The name that a refusal is told with.
 fn name(refusal: &Refusal) -> Option<&Name>
-    ensures { name_text (option_copied result)
-        ≡ (if has_name refusal.now.code then name_text refusal.now.name else []) }
+    ensures { option_copied result ≡ (if has_name refusal.now.code then refusal.now.name else None) }
 {
     if has_name(refusal.code) {
         refusal.name.as_ref()
@@ -208,7 +207,7 @@ pub(crate) fn stopped_line(alloc: Global, name: &[u8], fault: Fault) -> Result<B
 
 // A line of a text and a name.
 fn named_line(alloc: Global, text: &[u8], name: &[u8]) -> Result<Bytes, NoMemory>
-    ensures { IfOk result (λ line. line ≡ named_text text.now name.now) }
+    ensures { IfOk result (λ line. line ≡ text.now ++ name.now ++ codes "\n") }
 {
     let mut line = Vec::new(alloc);
     line.extend_from_slice(text)?;
@@ -223,7 +222,7 @@ fn bad_arrivals_line(
     checked: Option<&Checked>,
     op: Option<u32>,
 ) -> Result<Bytes, NoMemory>
-    ensures { IfOk result (λ line. line ≡ bad_arrivals_text (option_copied checked.entry) op) }
+    ensures { IfOk result (λ line. line ≡ status_text (option_copied checked.entry) (Cause.BadArrivals op)) }
 {
     match op {
         None => Ok(Items::from_slice(alloc, b"bad arrivals\n")?),
