@@ -1,14 +1,13 @@
 //! The built-in calls.
 ghost use Rattle.std.specs.Prelude.{IsTrue, IfOk};
 ghost use Rattle.spl_value.specs.Values.{fits};
-ghost use Rattle.spl_value.specs.Calls.{FitsCollection, FitMapAndKey, FitListAndElement, FitOrdered};
+ghost use Rattle.spl_value.specs.Calls.{FitsCollection, FitOrdered};
 
 use crate::words::number;
 use builtin_calls::{abs, append_m, clear_m, has, length, max, min, remove_m, size, substring};
 use spl_value::{Evaluated, IntKind, Items, NoMemory, Pairs, SplType, Value, Values, wrap};
 use std::alloc::{AllocError, Global};
-use std::test::Fail;
-use test_texts::rows::{Answers, expect};
+use test_texts::rows::{Answers, Untrue, expect};
 use test_texts::text::Text;
 use test_texts::types::integer_kind;
 use test_texts::values::{add_value, fault};
@@ -28,18 +27,6 @@ fn integer(kind: IntKind, n: i128) -> Value
     ensures { IsTrue (fits (SplType.Int kind) result) }
 {
     Value::Int(wrap(kind, n))
-}
-
-fn ordered_integers(a: i128, b: i128) -> (Value, Value)
-    ensures { FitOrdered result.0 result.1 }
-{
-    (integer(IntKind::I64, a), integer(IntKind::I64, b))
-}
-
-fn ordered_texts(alloc: Global, a: &str, b: &str) -> Result<(Value, Value), NoMemory>
-    ensures { IfOk result (λ p. FitOrdered p.0 p.1) }
-{
-    Ok((text(alloc, a)?, text(alloc, b)?))
 }
 
 // A list of int32: the numbers of these words.
@@ -76,30 +63,6 @@ fn collection(alloc: Global, kind: &str, words: &str) -> Result<Value, NoMemory>
     }
 }
 
-fn list_and_element(alloc: Global, words: &str, element: &str) -> Result<(Value, Value), NoMemory>
-    ensures { IfOk result (λ p. FitListAndElement p.0 p.1) }
-{
-    let list = Value::List(numbers(alloc, words)?);
-    Ok((list, integer(IntKind::I32, number(element))))
-}
-
-fn map_and_key(alloc: Global, words: &str, key: &str) -> Result<(Value, Value), NoMemory>
-    ensures { IfOk result (λ p. FitMapAndKey p.0 p.1) }
-{
-    let map = Value::Map(keyed(alloc, words)?);
-    Ok((map, integer(IntKind::I32, number(key))))
-}
-
-fn shown(alloc: Global, evaluated: &Evaluated) -> Result<String, AllocError> {
-    let mut text = Text::new(alloc);
-    match evaluated {
-        Evaluated::Value(value) => add_value(&mut text, value),
-        Evaluated::Bad(kind) => text.add(fault(*kind)),
-        Evaluated::Memory => text.add("memory"),
-    }
-    text.finish()
-}
-
 fn least_or_greatest(alloc: Global, call: &str, a: &Value, b: &Value) -> Evaluated
     requires { FitOrdered a.now b.now }
 {
@@ -109,25 +72,18 @@ fn least_or_greatest(alloc: Global, call: &str, a: &Value, b: &Value) -> Evaluat
     }
 }
 
-// `min` or `max` of two integers.
-fn of_integers(alloc: Global, call: &str, a: &str, b: &str) -> Evaluated {
-    let pair = ordered_integers(number(a), number(b));
-    least_or_greatest(alloc, call, &pair.0, &pair.1)
-}
-
-// `min` or `max` of two texts.
-fn of_texts(alloc: Global, call: &str, a: &str, b: &str) -> Result<Evaluated, NoMemory> {
-    let pair = ordered_texts(alloc, a, b)?;
-    Ok(least_or_greatest(alloc, call, &pair.0, &pair.1))
-}
-
-fn of_ordered(alloc: Global, call: &str, kind: &str, words: &str) -> Result<Evaluated, NoMemory> {
+// `min` or `max` of two integers, or of two texts.
+fn of_ordered(alloc: Global, call: &str, words: &str) -> Result<Evaluated, NoMemory> {
+    let (kind, words) = cut(words);
     let (a, b) = sides(words, ",");
     if kind == "integers" {
-        Ok(of_integers(alloc, call, a, b))
-    } else {
-        of_texts(alloc, call, a, b)
+        let a = integer(IntKind::I64, number(a));
+        let b = integer(IntKind::I64, number(b));
+        return Ok(least_or_greatest(alloc, call, &a, &b));
     }
+    let a = text(alloc, a)?;
+    let b = text(alloc, b)?;
+    Ok(least_or_greatest(alloc, call, &a, &b))
 }
 
 fn part(alloc: Global, whole: &Value, from: &str, count: &str) -> Evaluated
@@ -138,46 +94,35 @@ fn part(alloc: Global, whole: &Value, from: &str, count: &str) -> Evaluated
     substring(alloc, whole, &from, &count)
 }
 
-fn length_of(alloc: Global, bytes: &str) -> Result<Evaluated, NoMemory> {
-    let whole = text(alloc, bytes)?;
-    Ok(length(&whole))
-}
-
-fn part_of(alloc: Global, words: &str) -> Result<Evaluated, NoMemory> {
+// A call on a text, and on a place and a count in it.
+fn of_text(alloc: Global, call: &str, words: &str) -> Result<Evaluated, NoMemory> {
     let (bytes, rest) = sides(words, ",");
-    let (from, count) = sides(rest, ",");
     let whole = text(alloc, bytes)?;
+    if call == "length" {
+        return Ok(length(&whole));
+    }
+    let (from, count) = sides(rest, ",");
     Ok(part(alloc, &whole, from, count))
 }
 
-// A call on a text, and on a place and a count in it.
-fn of_text(alloc: Global, call: &str, words: &str) -> Result<Evaluated, NoMemory> {
-    if call == "length" {
-        length_of(alloc, words)
-    } else {
-        part_of(alloc, words)
-    }
-}
-
-fn of_map(alloc: Global, call: &str, key: &str, words: &str) -> Result<Evaluated, NoMemory> {
-    let (map, key) = map_and_key(alloc, words, key)?;
+fn of_map(alloc: Global, call: &str, words: &str) -> Result<Evaluated, NoMemory> {
+    let (key, words) = sides(words, " in ");
+    let map = Value::Map(keyed(alloc, words)?);
+    let key = integer(IntKind::I32, number(key));
     if call == "has" {
         return Ok(has(&map, &key));
     }
     Ok(remove_m(map, &key))
 }
 
-fn of_list(alloc: Global, element: &str, words: &str) -> Result<Evaluated, NoMemory> {
-    let (list, element) = list_and_element(alloc, words, element)?;
-    Ok(append_m(list, element))
+fn of_list(alloc: Global, words: &str) -> Result<Evaluated, NoMemory> {
+    let (element, words) = sides(words, " in ");
+    let list = Value::List(numbers(alloc, words)?);
+    Ok(append_m(list, integer(IntKind::I32, number(element))))
 }
 
-fn of_collection(
-    alloc: Global,
-    call: &str,
-    kind: &str,
-    words: &str,
-) -> Result<Evaluated, NoMemory> {
+fn of_collection(alloc: Global, call: &str, words: &str) -> Result<Evaluated, NoMemory> {
+    let (kind, words) = cut(words);
     let collection = collection(alloc, kind, words)?;
     if call == "size" {
         return Ok(size(&collection));
@@ -185,9 +130,10 @@ fn of_collection(
     Ok(clear_m(collection))
 }
 
-fn absolute(kind: &str, words: &str) -> Evaluated {
+fn absolute(words: &str) -> Evaluated {
+    let (kind, word) = cut(words);
     match integer_kind(kind) {
-        Some(kind) => abs(&integer(kind, number(words)), kind),
+        Some(kind) => abs(&integer(kind, number(word)), kind),
         None => Evaluated::Memory,
     }
 }
@@ -198,16 +144,14 @@ fn sides<'t>(text: &'t str, piece: &str) -> (&'t str, &'t str) {
 }
 
 fn called(alloc: Global, text: &str) -> Result<Evaluated, NoMemory> {
-    let (call, rest) = cut(text);
-    let (kind, words) = cut(rest);
-    let (first, others) = sides(rest, " in ");
+    let (call, words) = cut(text);
     match call {
-        "length" | "substring" => of_text(alloc, call, rest),
-        "min" | "max" => of_ordered(alloc, call, kind, words),
-        "has" | "remove" => of_map(alloc, call, first, others),
-        "append" => of_list(alloc, first, others),
-        "size" | "clear" => of_collection(alloc, call, kind, words),
-        _ => Ok(absolute(kind, words)),
+        "length" | "substring" => of_text(alloc, call, words),
+        "min" | "max" => of_ordered(alloc, call, words),
+        "has" | "remove" => of_map(alloc, call, words),
+        "append" => of_list(alloc, words),
+        "size" | "clear" => of_collection(alloc, call, words),
+        _ => Ok(absolute(words)),
     }
 }
 
@@ -216,10 +160,13 @@ struct Calls;
 
 impl Answers for Calls {
     fn answer(&self, alloc: Global, text: &str) -> Result<String, AllocError> {
+        let mut shown = Text::new(alloc);
         match called(alloc, text) {
-            Ok(evaluated) => shown(alloc, &evaluated),
-            Err(NoMemory) => "memory".to_string(alloc),
+            Ok(Evaluated::Value(value)) => add_value(&mut shown, &value),
+            Ok(Evaluated::Bad(kind)) => shown.add(fault(kind)),
+            Ok(Evaluated::Memory) | Err(NoMemory) => shown.add("memory"),
         }
+        shown.finish()
     }
 }
 
@@ -361,7 +308,6 @@ substring ,1,0 => Index
 "#;
 
 #[test]
-fn calls_have_their_values_or_faults(rt: HostRuntime) -> Result<(), Fail> {
-    expect(rt.alloc(), &Calls, &[ROWS])?;
-    Ok(())
+fn calls_have_their_values_or_faults(rt: HostRuntime) -> Result<(), Untrue> {
+    expect(rt.alloc(), &Calls, &[ROWS])
 }

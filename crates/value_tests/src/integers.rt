@@ -1,42 +1,52 @@
 //! Integers and their texts.
 use crate::words::number;
-use spl_value::{IntKind, NoMemory, add_integer, is_of_kind, read_integer, read_natural, wrap};
+use spl_value::{NoMemory, add_integer, is_of_kind, read_integer, read_natural, wrap};
 use std::alloc::{AllocError, Global};
-use std::test::Fail;
-use test_texts::rows::{Answers, expect};
+use test_texts::rows::{Answers, Untrue, expect};
 use test_texts::text::Text;
 use test_texts::types::integer_kind;
 use test_texts::words::cut;
 
-fn optional(alloc: Global, number: Option<i128>) -> Result<String, AllocError> {
+fn add_optional(text: &mut Text, number: Option<i128>) {
     match number {
-        Some(number) => format!(in alloc; "{number}"),
-        None => "none".to_string(alloc),
+        Some(number) => text.add_number(number),
+        None => text.add("none"),
     }
 }
 
-fn natural(alloc: Global, digits: &[u8]) -> Result<String, AllocError> {
+fn add_natural(text: &mut Text, digits: &[u8]) {
     if digits.len() > 18 {
-        return "too long".to_string(alloc);
+        text.add("too long");
+    } else {
+        add_optional(text, read_natural(digits).map(i128::from));
     }
-    optional(alloc, read_natural(digits).map(i128::from))
 }
 
 // The number after `n=`.
-fn added(alloc: Global, number: i128) -> Result<String, NoMemory> {
-    let mut text = b"n=".to_vec(alloc)?;
-    add_integer(&mut text, number)?;
-    let mut shown = Text::new(alloc);
-    shown.add_bytes(text.as_slice());
-    Ok(shown.finish()?)
+fn add_added(text: &mut Text, start: Result<Vec<u8>, AllocError>, number: i128) {
+    let Ok(mut added) = start else {
+        return text.add("memory");
+    };
+    match add_integer(&mut added, number) {
+        Ok(()) => text.add_bytes(added.as_slice()),
+        Err(NoMemory) => text.add("memory"),
+    }
 }
 
-fn of_kind(alloc: Global, call: &str, kind: IntKind, text: &str) -> Result<String, AllocError> {
+fn add_of_kind(text: &mut Text, call: &str, words: &str) {
+    let (kind, word) = cut(words);
+    let Some(kind) = integer_kind(kind) else {
+        return text.add("no kind");
+    };
     match call {
-        "wrap" => optional(alloc, Some(wrap(kind, number(text)))),
-        "holds" => format!(in alloc; "{}", is_of_kind(kind, number(text))),
-        "read" => optional(alloc, read_integer(kind, text.as_bytes())),
-        _ => "no call".to_string(alloc),
+        "wrap" => text.add_number(wrap(kind, number(word))),
+        "holds" => text.add(if is_of_kind(kind, number(word)) {
+            "true"
+        } else {
+            "false"
+        }),
+        "read" => add_optional(text, read_integer(kind, word.as_bytes())),
+        _ => text.add("no call"),
     }
 }
 
@@ -46,17 +56,13 @@ struct Integers;
 impl Answers for Integers {
     fn answer(&self, alloc: Global, text: &str) -> Result<String, AllocError> {
         let (call, rest) = cut(text);
+        let mut shown = Text::new(alloc);
         match call {
-            "natural" => natural(alloc, rest.as_bytes()),
-            "add" => added(alloc, number(rest)).or_else(|_| "memory".to_string(alloc)),
-            call => {
-                let (kind, text) = cut(rest);
-                match integer_kind(kind) {
-                    Some(kind) => of_kind(alloc, call, kind, text),
-                    None => "no kind".to_string(alloc),
-                }
-            }
+            "natural" => add_natural(&mut shown, rest.as_bytes()),
+            "add" => add_added(&mut shown, b"n=".to_vec(alloc), number(rest)),
+            _ => add_of_kind(&mut shown, call, rest),
         }
+        shown.finish()
     }
 }
 
@@ -190,7 +196,6 @@ add 18446744073709551615 => n=18446744073709551615
 "#;
 
 #[test]
-fn integers_wrap_and_are_read_and_written(rt: HostRuntime) -> Result<(), Fail> {
-    expect(rt.alloc(), &Integers, &[ROWS])?;
-    Ok(())
+fn integers_wrap_and_are_read_and_written(rt: HostRuntime) -> Result<(), Untrue> {
+    expect(rt.alloc(), &Integers, &[ROWS])
 }

@@ -2,63 +2,68 @@
 ghost use Rattle.std.specs.Prelude.{IsTrue};
 ghost use Rattle.spl_value.specs.Key.{is_key_value, are_key_places};
 
-use crate::words::{bytes_of, number};
+use crate::words::{bytes_of, key};
 use spl_value::{Items, Value, Values, fnv, hash_key};
 use std::alloc::{AllocError, Global};
-use std::test::Fail;
-use test_texts::rows::{Answers, expect};
-use test_texts::words::cut;
+use test_texts::rows::{Answers, Untrue, expect};
+use test_texts::words::{bytes, cut, number};
+
+fn hash_of(alloc: Global, tuple: &Values, places: &[u32]) -> Result<u64, AllocError>
+    requires { IsTrue (are_key_places tuple.now places.now) }
+{
+    let key = Items::from_slice(alloc, places)?;
+    Ok(hash_key(tuple, &key))
+}
 
 // The hash of a key with this value alone.
 fn hash_of_one(alloc: Global, value: Value) -> Result<u64, AllocError>
     requires { IsTrue (is_key_value value) }
 {
     let tuple = Items::from_vec(vec![in alloc; value]?);
-    let key = Items::from_slice(alloc, &[0])?;
-    Ok(hash_key(&tuple, &key))
+    hash_of(alloc, &tuple, &[0])
 }
 
-// The remainder of the hash of a text, divided by a width above 0.
-fn channel(alloc: Global, width: u64, text: &str) -> Result<String, AllocError> {
-    let value = Value::Text(Items::from_slice(alloc, text.as_bytes())?);
-    let hash = hash_of_one(alloc, value)?;
-    match hash.checked_rem(width) {
-        Some(channel) => format!(in alloc; "{channel}"),
-        None => "no width".to_string(alloc),
+// The hash of a key with these places of the text `a` and 1.
+fn hash_at(alloc: Global, places: &str) -> Result<u64, AllocError> {
+    let text = Value::Text(bytes(alloc, "a")?);
+    let tuple = Items::from_vec(vec![in alloc; text, Value::Int(1)]?);
+    match places {
+        "0,1" => hash_of(alloc, &tuple, &[0, 1]),
+        "1,0" => hash_of(alloc, &tuple, &[1, 0]),
+        "0,1,0,0,1" => hash_of(alloc, &tuple, &[0, 1, 0, 0, 1]),
+        "1,1" => hash_of(alloc, &tuple, &[1, 1]),
+        _ => hash_of(alloc, &tuple, &[]),
     }
 }
 
-// Whether a value alone has the hash of these bytes.
-fn is_hashed_as(alloc: Global, value: &str, bytes: &[u8]) -> Result<String, AllocError> {
-    let hash = match value {
-        "false" => hash_of_one(alloc, Value::Bool(false))?,
-        "true" => hash_of_one(alloc, Value::Bool(true))?,
-        word => hash_of_one(alloc, Value::Int(number(word)))?,
-    };
-    format!(in alloc; "{}", hash == fnv(bytes))
+// The remainder of the hash of a text, divided by a width: of none by 0.
+fn channel(alloc: Global, words: &str) -> Result<String, AllocError> {
+    let (width, text) = cut(words);
+    let hash = hash_of_one(alloc, Value::Text(bytes(alloc, text)?))?;
+    let channel = hash.checked_rem(u64::from(number(width)));
+    channel.unwrap_or(u64::MAX).to_string(alloc)
 }
 
-// Whether the value in front of ` as ` has the hash of the bytes behind it.
-fn same(alloc: Global, text: &str) -> Result<String, AllocError> {
-    let (value, bytes) = text.split_once(" as ").unwrap_or((text, ""));
+// Whether a hash is that of these bytes.
+fn same(alloc: Global, hash: Result<u64, AllocError>, bytes: &str) -> Result<String, AllocError> {
+    let hash = hash?;
     let bytes = bytes_of(alloc, bytes)?;
-    is_hashed_as(alloc, value, bytes.as_slice())
+    (hash == fnv(bytes.as_slice())).to_string(alloc)
 }
 
-// The hash of bytes, the channel that a text goes to, of a number of them, and whether a value is hashed as
-// bytes.
+// The hash of bytes, the channel that a text goes to, of a number of them, and whether a key is hashed as the
+// bytes behind ` as `.
 struct Hashes;
 
 impl Answers for Hashes {
     fn answer(&self, alloc: Global, text: &str) -> Result<String, AllocError> {
         let (call, rest) = cut(text);
+        let (front, bytes) = rest.split_once(" as ").unwrap_or((rest, ""));
         match call {
             "fnv" => format!(in alloc; "{:016x}", fnv(rest.as_bytes())),
-            "channel" => {
-                let (width, text) = cut(rest);
-                channel(alloc, width.parse::<u64>().unwrap_or(0), text)
-            }
-            _ => same(alloc, rest),
+            "channel" => channel(alloc, rest),
+            "places" => same(alloc, hash_at(alloc, front), bytes),
+            _ => same(alloc, hash_of_one(alloc, key(front)), bytes),
         }
     }
 }
@@ -85,40 +90,16 @@ same -9223372036854775808 as 0 0 0 0 0 0 0 128 => true
 same 18446744073709551615 as 255 255 255 255 255 255 255 255 => true
 same false as 0 => true
 same true as 1 => true
+
+# A key is hashed as a set of attributes
+places 0,1 as 1 0 0 0 0 0 0 0 97 1 0 0 0 0 0 0 0 => true
+places 1,0 as 1 0 0 0 0 0 0 0 97 1 0 0 0 0 0 0 0 => true
+places 0,1,0,0,1 as 1 0 0 0 0 0 0 0 97 1 0 0 0 0 0 0 0 => true
+places 1,1 as 1 0 0 0 0 0 0 0 => true
+places none as  => true
 "#;
 
 #[test]
-fn bytes_and_keys_have_their_hashes(rt: HostRuntime) -> Result<(), Fail> {
-    expect(rt.alloc(), &Hashes, &[ROWS])?;
-    Ok(())
-}
-
-// Whether a tuple of a text and an integer has at these places a key that is hashed as these bytes.
-fn is_key_hashed_as(
-    alloc: Global,
-    tuple: &Values,
-    places: &[u32],
-    bytes: &[u8],
-) -> Result<bool, AllocError>
-    requires { IsTrue (are_key_places tuple.now places.now) }
-{
-    let key = Items::from_slice(alloc, places)?;
-    Ok(hash_key(tuple, &key) == fnv(bytes))
-}
-
-#[test]
-fn a_key_is_hashed_as_a_set_of_attributes(rt: HostRuntime) -> Result<(), Fail> {
-    let text = Value::Text(Items::from_slice(rt.alloc(), b"a")?);
-    let tuple = Items::from_vec(vec![in rt.alloc(); text, Value::Int(1)]?);
-    let both = [1, 0, 0, 0, 0, 0, 0, 0, b'a', 1, 0, 0, 0, 0, 0, 0, 0];
-    for (places, bytes) in [
-        ([0, 1].as_slice(), both.as_slice()),
-        (&[1, 0], &both),
-        (&[0, 1, 0, 0, 1], &both),
-        (&[1, 1], &[1, 0, 0, 0, 0, 0, 0, 0]),
-        (&[], &[]),
-    ] {
-        assert!(rt; is_key_hashed_as(rt.alloc(), &tuple, places, bytes)?);
-    }
-    Ok(())
+fn bytes_and_keys_have_their_hashes(rt: HostRuntime) -> Result<(), Untrue> {
+    expect(rt.alloc(), &Hashes, &[ROWS])
 }

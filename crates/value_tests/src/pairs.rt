@@ -2,24 +2,22 @@
 ghost use Rattle.std.specs.Prelude.{IsTrue, IfOk};
 ghost use Rattle.spl_value.specs.Pairs.{are_pairs};
 
-use crate::words::number;
+use crate::words::{key, number};
 use spl_value::{Items, NoMemory, Pairs, Value};
 use std::alloc::{AllocError, Global};
-use std::test::Fail;
-use test_texts::rows::{Answers, expect};
+use test_texts::rows::{Answers, Untrue, expect};
 use test_texts::text::Text;
 use test_texts::values::add_value;
 use test_texts::words::cut;
 
-// The pairs of words as `5:50`, put in this order.
-fn pairs_of(alloc: Global, words: &str) -> Result<Pairs, NoMemory>
+/// The pairs of words as `5:50`, put in this order.
+pub(crate) fn pairs_of(alloc: Global, words: &str) -> Result<Pairs, NoMemory>
     ensures { IfOk result (λ ps. IsTrue (are_pairs ps)) }
 {
     let mut pairs = Items::new(alloc);
     for word in words.split_whitespace() {
-        if let Some((key, value)) = word.split_once(':') {
-            pairs.put(Value::Int(number(key)), Value::Int(number(value)))?;
-        }
+        let (key, value) = word.split_once(':').unwrap_or((word, ""));
+        pairs.put(Value::Int(number(key)), Value::Int(number(value)))?;
     }
     Ok(pairs)
 }
@@ -31,83 +29,52 @@ fn add_optional(text: &mut Text, value: Option<&Value>) {
     }
 }
 
-fn shown(alloc: Global, value: &Value) -> Result<String, NoMemory> {
-    let mut text = Text::new(alloc);
-    add_value(&mut text, value);
-    Ok(text.finish()?)
-}
-
-fn found(alloc: Global, value: Option<&Value>) -> Result<String, NoMemory> {
-    let mut text = Text::new(alloc);
-    add_optional(&mut text, value);
-    Ok(text.finish()?)
-}
-
-// The value at the key.
-fn find(alloc: Global, key: Value, pairs: Pairs) -> Result<String, NoMemory>
-    requires { IsTrue (are_pairs pairs) }
-{
-    found(alloc, pairs.find(&key))
-}
-
-// Whether the key is there.
-fn contains(alloc: Global, key: Value, pairs: Pairs) -> Result<String, NoMemory>
-    requires { IsTrue (are_pairs pairs) }
-{
-    shown(alloc, &Value::Bool(pairs.contains_key(&key)))
+fn add_pairs(text: &mut Text, pairs: Pairs) {
+    add_value(text, &Value::Map(pairs));
 }
 
 // The pairs with 7 at the key.
-fn put(alloc: Global, key: Value, pairs: Pairs) -> Result<String, NoMemory>
+fn add_put(text: &mut Text, key: Value, mut pairs: Pairs)
     requires { IsTrue (are_pairs pairs) }
 {
-    let mut pairs = pairs;
-    pairs.put(key, Value::Int(7))?;
-    shown(alloc, &Value::Map(pairs))
-}
-
-// The pairs with 7 written at the place that the key lends, if it lends one.
-fn written(alloc: Global, key: Value, pairs: Pairs) -> Result<String, NoMemory>
-    requires { IsTrue (are_pairs pairs) }
-{
-    let mut pairs = pairs;
-    let Some(place) = pairs.find_mut(&key) else {
-        return Ok("none".to_string(alloc)?);
-    };
-    *place = Value::Int(7);
-    shown(alloc, &Value::Map(pairs))
-}
-
-// The value that the key had, and the pairs without it.
-fn removed(alloc: Global, key: Value, pairs: Pairs) -> Result<String, NoMemory>
-    requires { IsTrue (are_pairs pairs) }
-{
-    let mut pairs = pairs;
-    let value = pairs.remove_key(&key);
-    let mut text = Text::new(alloc);
-    add_optional(&mut text, value.as_ref());
-    text.add(" of ");
-    add_value(&mut text, &Value::Map(pairs));
-    Ok(text.finish()?)
-}
-
-// The result of a call on a key and pairs.
-fn of_pairs(alloc: Global, call: &str, key: Value, pairs: Pairs) -> Result<String, NoMemory>
-    requires { IsTrue (are_pairs pairs) }
-{
-    match call {
-        "find" => find(alloc, key, pairs),
-        "contains" => contains(alloc, key, pairs),
-        "put" => put(alloc, key, pairs),
-        "write" => written(alloc, key, pairs),
-        "remove" => removed(alloc, key, pairs),
-        _ => shown(alloc, &Value::Map(pairs)),
+    match pairs.put(key, Value::Int(7)) {
+        Ok(()) => add_pairs(text, pairs),
+        Err(NoMemory) => text.add("memory"),
     }
 }
 
-fn called(alloc: Global, call: &str, key: Value, words: &str) -> Result<String, NoMemory> {
-    let pairs = pairs_of(alloc, words)?;
-    of_pairs(alloc, call, key, pairs)
+// The pairs with 7 written at the place that the key lends, if it lends one.
+fn add_written(text: &mut Text, key: Value, mut pairs: Pairs)
+    requires { IsTrue (are_pairs pairs) }
+{
+    let Some(place) = pairs.find_mut(&key) else {
+        return text.add("none");
+    };
+    *place = Value::Int(7);
+    add_pairs(text, pairs);
+}
+
+// The value that the key had, and the pairs without it.
+fn add_removed(text: &mut Text, key: Value, mut pairs: Pairs)
+    requires { IsTrue (are_pairs pairs) }
+{
+    add_optional(text, pairs.remove_key(&key).as_ref());
+    text.add(" of ");
+    add_pairs(text, pairs);
+}
+
+// The result of a call on a key and pairs.
+fn add_call(text: &mut Text, call: &str, key: Value, pairs: Pairs)
+    requires { IsTrue (are_pairs pairs) }
+{
+    match call {
+        "find" => add_optional(text, pairs.find(&key)),
+        "contains" => add_value(text, &Value::Bool(pairs.contains_key(&key))),
+        "put" => add_put(text, key, pairs),
+        "write" => add_written(text, key, pairs),
+        "remove" => add_removed(text, key, pairs),
+        _ => add_pairs(text, pairs),
+    }
 }
 
 // Calls on a key and pairs.
@@ -115,9 +82,14 @@ struct Calls;
 
 impl Answers for Calls {
     fn answer(&self, alloc: Global, text: &str) -> Result<String, AllocError> {
-        let (front, pairs) = text.split_once(" in ").unwrap_or((text, ""));
-        let (call, key) = cut(front);
-        called(alloc, call, Value::Int(number(key)), pairs).or_else(|_| "memory".to_string(alloc))
+        let (front, words) = text.split_once(" in ").unwrap_or((text, ""));
+        let (call, word) = cut(front);
+        let mut shown = Text::new(alloc);
+        match pairs_of(alloc, words) {
+            Ok(pairs) => add_call(&mut shown, call, key(word), pairs),
+            Err(NoMemory) => shown.add("memory"),
+        }
+        shown.finish()
     }
 }
 
@@ -139,6 +111,9 @@ find 10 in 5:50 1:10 9:90 3:30 => none
 contains 10 in 5:50 1:10 9:90 3:30 => false
 find 1 in  => none
 contains 1 in  => false
+# A key of another type is not found
+find false in  => none
+find false in 5:50 0:10 => none
 
 # Pairs stand by ascending key
 all 0 in 5:50 1:10 3:30 => {1: 10, 3: 30, 5: 50}
@@ -168,16 +143,8 @@ remove 1 in  => none of {}
 "#;
 
 #[test]
-fn pairs_are_found_and_changed_at_their_keys(rt: HostRuntime) -> Result<(), Fail> {
-    expect(rt.alloc(), &Calls, &[ROWS])?;
-    Ok(())
-}
-
-#[test]
-fn a_key_of_another_type_is_not_found(rt: HostRuntime) -> Result<(), Fail> {
-    let none = pairs_of(rt.alloc(), "")?;
-    assert!(rt; none.find(&Value::Bool(false)).is_none());
-    Ok(())
+fn pairs_are_found_and_changed_at_their_keys(rt: HostRuntime) -> Result<(), Untrue> {
+    expect(rt.alloc(), &Calls, &[ROWS])
 }
 
 // The even keys below 2,000, each with its half, put in a mixed order.
@@ -197,8 +164,10 @@ fn is_found(pairs: &Pairs, number: u32) -> bool
     requires { IsTrue (are_pairs pairs.now) }
 {
     let number = i128::from(number);
-    let found = pairs.find(&Value::Int(2 * number));
-    found == Some(&Value::Int(number)) && !pairs.contains_key(&Value::Int(2 * number + 1))
+    let Some(Value::Int(half)) = pairs.find(&Value::Int(2 * number)) else {
+        return false;
+    };
+    *half == number && !pairs.contains_key(&Value::Int(2 * number + 1))
 }
 
 // Whether each number below 1,000 is found so.
@@ -214,7 +183,7 @@ fn are_found(pairs: &Pairs) -> bool
 }
 
 #[test]
-fn each_of_a_thousand_keys_is_found(rt: HostRuntime) -> Result<(), Fail> {
+fn each_of_a_thousand_keys_is_found(rt: HostRuntime) -> Result<(), NoMemory> {
     let pairs = even_keys(rt.alloc())?;
     assert!(rt; pairs.len() == 1000 && are_found(&pairs));
     Ok(())

@@ -1,11 +1,26 @@
 //! Words of rows, and their values.
-use spl_value::{Items, Value, Values};
+ghost use Rattle.std.specs.Prelude.{IsTrue};
+ghost use Rattle.spl_value.specs.Key.{is_key_value};
+
+use crate::pairs::pairs_of;
+use spl_value::{Items, NoMemory, Value, Values};
 use std::alloc::{AllocError, Global};
 use test_texts::words::cut;
 
 /// The number that a word spells; what spells none is 0.
 pub(crate) fn number(word: &str) -> i128 {
     word.parse::<i128>().unwrap_or(0)
+}
+
+/// The boolean or the integer that a word spells.
+pub(crate) fn key(word: &str) -> Value
+    ensures { IsTrue (is_key_value result) }
+{
+    match word {
+        "false" => Value::Bool(false),
+        "true" => Value::Bool(true),
+        _ => Value::Int(number(word)),
+    }
 }
 
 /// The bytes whose numbers these words are.
@@ -25,15 +40,11 @@ fn integers(alloc: Global, words: &str) -> Result<Values, AllocError> {
     Ok(values)
 }
 
-// A map with the keys and values of words as `1:5`, by ascending key.
 fn map(alloc: Global, words: &str) -> Result<Value, AllocError> {
-    let mut pairs = Items::new(alloc);
-    for word in words.split_whitespace() {
-        if let Some((key, value)) = word.split_once(':') {
-            pairs.push((Value::Int(number(key)), Value::Int(number(value))))?;
-        }
+    match pairs_of(alloc, words) {
+        Ok(pairs) => Ok(Value::Map(pairs)),
+        Err(NoMemory) => Err(AllocError),
     }
-    Ok(Value::Map(pairs))
 }
 
 // A text with the bytes whose numbers these words are.
@@ -51,17 +62,26 @@ fn sequence(alloc: Global, words: &str, is_tuple: bool) -> Result<Value, AllocEr
     })
 }
 
-// The value of words: `integer 5`, `boolean true`, `text 97 0` by the numbers of its bytes, `list 1 2`,
-// `map 1:5 2:0`, or `tuple 1 2`.
+// A list of one list of one list .., with the number in the innermost.
+fn nested(alloc: Global, n: i128) -> Result<Value, AllocError> {
+    let mut value = Value::Int(n);
+    for _ in 0..150u32 {
+        value = Value::List(Items::from_vec(vec![in alloc; value]?));
+    }
+    Ok(value)
+}
+
+// The value of words: `5` or `true`, `text 97 0` by the numbers of its bytes, `list 1 2`, `map 1:5 2:0`,
+// `tuple 1 2`, or `nested 7` in 150 lists.
 fn value_of(alloc: Global, words: &str) -> Result<Value, AllocError> {
     let (kind, words) = cut(words);
     match kind {
-        "boolean" => Ok(Value::Bool(words == "true")),
         "text" => text(alloc, words),
         "list" => sequence(alloc, words, false),
         "tuple" => sequence(alloc, words, true),
         "map" => map(alloc, words),
-        _ => Ok(Value::Int(number(words))),
+        "nested" => nested(alloc, number(words)),
+        word => Ok(key(word)),
     }
 }
 
