@@ -1,81 +1,46 @@
 //! A million items through each merger: they come on the channels in turn, and as many are asked for as come.
-ghost use Rattle.std.specs.Prelude.{◌≤◌};
+ghost use Rattle.std.specs.Prelude.{◌≡◌, ◌≤◌, IfOk};
 
+use crate::scripts::Merges;
 use order_merger::{NumberMerger, TurnMerger};
 use pulse_rule::PulseMerger;
 use spl_value::{Item, NoMemory, Packet};
-use std::alloc::Global;
-use std::test::Fail;
 
-fn by_turns(alloc: Global, width: u32, count: u64) -> Result<u64, NoMemory>
-    requires { (1 ≤ width) × (width ≤ 16) }
+// How many items a merger gives of so many.
+fn given<M: Merges>(merger: Result<M, NoMemory>, width: u32, count: u64) -> Option<u64>
+    requires width { 1 ≤ width }
+    requires merger { IfOk merger (λ m. M.width m ≡ width) }
 {
-    let mut merger = TurnMerger::new(alloc, width)?;
+    let mut merger = merger.ok()?;
     let mut given = 0u64;
     for number in 0..count {
         let channel = (number % u64::from(width)) as u32;
-        if merger.wants(channel) {
+        if merger.does_want(channel) {
             let item = Item::Window;
-            merger.take(channel, Packet::Item { number, item });
+            merger.take_in(channel, Packet::Item { number, item });
         }
-        if merger.emit().is_some() {
+        if merger.give().is_some() {
             given = given.wrapping_add(1);
         }
     }
-    Ok(given)
-}
-
-fn by_numbers(alloc: Global, width: u32, count: u64) -> Result<u64, NoMemory>
-    requires { (1 ≤ width) × (width ≤ 16) }
-{
-    let mut merger = NumberMerger::new(alloc, width)?;
-    let mut given = 0u64;
-    for number in 0..count {
-        let channel = (number % u64::from(width)) as u32;
-        if merger.wants(channel) {
-            let item = Item::Window;
-            merger.take(channel, Packet::Item { number, item });
-        }
-        if merger.emit().is_some() {
-            given = given.wrapping_add(1);
-        }
-    }
-    Ok(given)
-}
-
-fn by_pulses(alloc: Global, width: u32, count: u64) -> Result<u64, NoMemory>
-    requires { (1 ≤ width) × (width ≤ 16) }
-{
-    let mut merger = PulseMerger::new(alloc, width)?;
-    let mut given = 0u64;
-    for number in 0..count {
-        let channel = (number % u64::from(width)) as u32;
-        if merger.wants(channel) {
-            let item = Item::Window;
-            merger.take(channel, Packet::Item { number, item });
-        }
-        if merger.emit().is_some() {
-            given = given.wrapping_add(1);
-        }
-    }
-    Ok(given)
+    Some(given)
 }
 
 #[test]
-fn a_million_items_by_turns(rt: HostRuntime) -> Result<(), Fail> {
-    assert!(rt; matches!(by_turns(rt.alloc(), 4, 1_000_000), Ok(1_000_000)));
-    Ok(())
+fn a_million_items_by_turns(rt: HostRuntime) {
+    let merger = TurnMerger::new(rt.alloc(), 4);
+    assert!(rt; given(merger, 4, 1_000_000) == Some(1_000_000));
 }
 
 #[test]
-fn a_million_items_by_numbers(rt: HostRuntime) -> Result<(), Fail> {
-    assert!(rt; matches!(by_numbers(rt.alloc(), 4, 1_000_000), Ok(1_000_000)));
-    Ok(())
+fn a_million_items_by_numbers(rt: HostRuntime) {
+    let merger = NumberMerger::new(rt.alloc(), 4);
+    assert!(rt; given(merger, 4, 1_000_000) == Some(1_000_000));
 }
 
 // The last items wait for the other channels, since numbers may be missing.
 #[test]
-fn a_million_items_by_pulses(rt: HostRuntime) -> Result<(), Fail> {
-    assert!(rt; matches!(by_pulses(rt.alloc(), 4, 1_000_000), Ok(999_997)));
-    Ok(())
+fn a_million_items_by_pulses(rt: HostRuntime) {
+    let merger = PulseMerger::new(rt.alloc(), 4);
+    assert!(rt; given(merger, 4, 1_000_000) == Some(999_997));
 }

@@ -6,9 +6,8 @@ use order_merger::{NumberMerger, TurnMerger};
 use pulse_rule::PulseMerger;
 use spl_value::{Item, Packet};
 use std::alloc::{AllocError, Global};
-use std::test::Fail;
-use test_texts::rows::{Answers, expect};
-use test_texts::words::cut;
+use test_texts::rows::{Answers, Untrue, expect};
+use test_texts::words::{cut, number};
 
 impl Merges for TurnMerger {
     ghost width = { λ m. width_of m.held };
@@ -83,20 +82,11 @@ impl Answers for Merged {
     fn answer(&self, alloc: Global, text: &str) -> Result<String, AllocError> {
         let (kind, rest) = cut(text);
         let (width, script) = cut(rest);
-        let width = width.parse::<u32>().unwrap_or(1).clamp(1, 16);
+        let width = number(width).clamp(1, 16);
         match kind {
-            "turns" => match TurnMerger::new(alloc, width) {
-                Ok(merger) => told(alloc, merger, width, script),
-                Err(_) => "no memory".to_string(alloc),
-            },
-            "numbers" => match NumberMerger::new(alloc, width) {
-                Ok(merger) => told(alloc, merger, width, script),
-                Err(_) => "no memory".to_string(alloc),
-            },
-            _ => match PulseMerger::new(alloc, width) {
-                Ok(merger) => told(alloc, merger, width, script),
-                Err(_) => "no memory".to_string(alloc),
-            },
+            "turns" => told(alloc, TurnMerger::new(alloc, width), width, script),
+            "numbers" => told(alloc, NumberMerger::new(alloc, width), width, script),
+            _ => told(alloc, PulseMerger::new(alloc, width), width, script),
         }
     }
 }
@@ -150,7 +140,6 @@ numbers 2 0:0a 0:1b ? => unwanteda
 "#;
 
 #[test]
-fn mergers_give_items_in_their_order(rt: HostRuntime) -> Result<(), Fail> {
-    expect(rt.alloc(), &Merged, &[ROWS])?;
-    Ok(())
+fn mergers_give_items_in_their_order(rt: HostRuntime) -> Result<(), Untrue> {
+    expect(rt.alloc(), &Merged, &[ROWS])
 }

@@ -4,10 +4,12 @@
 //! `w` in place of the letter. `0:p3` is a pulse, `0:close` and `0:cut` end a channel. `?` asks for an item, which is
 //! told by its letter, and `-` tells that there was none. `0?` tells by `+` and `-` whether the channel wants a
 //! packet. `cut?` tells whether the merger was cut.
-ghost use Rattle.std.specs.Prelude.{◌≡◌, ◌<◌, ◌≤◌, ℕ, Bool, true};
+ghost use Rattle.std.specs.Prelude.{◌≡◌, ◌<◌, ◌≤◌, ℕ, Bool, true, IfOk};
 
-use spl_value::{Fault, FaultKind, Item, Items, Packet, Value};
+use spl_value::{Fault, FaultKind, Item, Items, NoMemory, Packet, Value};
 use std::alloc::{AllocError, Global};
+use test_texts::text::Text;
+use test_texts::words::number;
 
 /// A merger of any kind.
 pub(crate) trait Merges: Drop {
@@ -31,19 +33,29 @@ pub(crate) trait Merges: Drop {
 }
 
 fn item_of(alloc: Global, letter: &str) -> Result<Item, AllocError> {
-    Ok(match letter {
-        "w" => Item::Window,
-        "." => Item::Final,
-        "!" => Item::Bad(Fault {
+    match letter {
+        "w" => Ok(Item::Window),
+        "." => Ok(Item::Final),
+        "!" => Ok(Item::Bad(Fault {
             op: 0,
             kind: FaultKind::DivZero,
             line: 0,
-        }),
+        })),
         _ => {
             let text = Value::Text(Items::from_slice(alloc, letter.as_bytes())?);
-            Item::Tuple(Items::from_vec(vec![in alloc; text]?))
+            Ok(Item::Tuple(Items::from_vec(vec![in alloc; text]?)))
         }
-    })
+    }
+}
+
+// The number and the letter of a word.
+fn number_and_letter(word: &str) -> Option<(u32, &'static str)> {
+    for letter in ["a", "b", "c", "d", "e", "f", "w", ".", "!"] {
+        if let Some(digits) = word.strip_suffix(letter) {
+            return Some((number(digits), letter));
+        }
+    }
+    None
 }
 
 // The packet of a word after its channel.
@@ -51,124 +63,96 @@ fn packet_of(alloc: Global, word: &str) -> Result<Packet, AllocError> {
     if word == "close" {
         return Ok(Packet::Close);
     }
-    if word == "cut" {
+    if let Some(digits) = word.strip_prefix("p") {
+        return Ok(Packet::Pulse(u64::from(number(digits))));
+    }
+    let Some((number, letter)) = number_and_letter(word) else {
         return Ok(Packet::Cut);
-    }
-    if let Some(number) = word.strip_prefix("p") {
-        return Ok(Packet::Pulse(number.parse::<u64>().unwrap_or(0)));
-    }
-    for letter in ["a", "b", "c", "d", "e", "f", "w", ".", "!"] {
-        if let Some(number) = word.strip_suffix(letter) {
-            let number = number.parse::<u64>().unwrap_or(0);
-            let item = item_of(alloc, letter)?;
-            return Ok(Packet::Item { number, item });
-        }
-    }
-    Ok(Packet::Cut)
+    };
+    let number = u64::from(number);
+    let item = item_of(alloc, letter)?;
+    Ok(Packet::Item { number, item })
 }
 
 // The letter of an item.
-fn add_letter(shown: &mut String, item: &Item) -> Result<(), AllocError> {
+fn add_letter(shown: &mut Text, item: &Item) {
     match item {
-        Item::Window => shown.push_str("w"),
-        Item::Final => shown.push_str("."),
-        Item::Bad(_) => shown.push_str("!"),
+        Item::Window => shown.add("w"),
+        Item::Final => shown.add("."),
+        Item::Bad(_) => shown.add("!"),
         Item::Tuple(values) => match values.get(0) {
-            Some(Value::Text(text)) => {
-                for byte in text.as_slice() {
-                    shown.push(char::from(*byte))?;
-                }
-                Ok(())
-            }
-            _ => shown.push_str("?"),
+            Some(Value::Text(text)) => shown.add_bytes(text.as_slice()),
+            _ => shown.add("?"),
         },
     }
 }
 
-fn add_given<M: Merges>(merger: &mut M, shown: &mut String) -> Result<(), AllocError>
+fn add_given<M: Merges>(merger: &mut M, shown: &mut Text)
     ensures { M.width merger.new ≡ M.width merger.old }
 {
     match merger.give() {
         Some(item) => add_letter(shown, &item),
-        None => shown.push_str("-"),
+        None => shown.add("-"),
     }
+}
+
+// Whether a channel is one of these and wants a packet.
+fn is_wanting<M: Merges>(merger: &M, width: u32, channel: u32) -> bool
+    requires { M.width merger.now ≡ width }
+    ensures within { result ≡ true → channel < width }
+    ensures wants { result ≡ true → M.is_wanting merger.now channel ≡ true }
+{
+    channel < width && merger.does_want(channel)
 }
 
 // A packet on a channel that wants one; on another one it is told.
-fn add_packet<M: Merges>(
-    alloc: Global,
-    merger: &mut M,
-    width: u32,
-    word: &str,
-    shown: &mut String,
-) -> Result<(), AllocError>
+fn add_packet<M: Merges>(alloc: Global, merger: &mut M, width: u32, word: &str, shown: &mut Text)
     requires { M.width merger.old ≡ width }
     ensures { M.width merger.new ≡ width }
 {
-    let Some((channel, rest)) = word.split_once(':') else {
-        return shown.push_str("bad word");
-    };
-    let channel = channel.parse::<u32>().unwrap_or(0);
-    if channel >= width || !merger.does_want(channel) {
-        return shown.push_str("unwanted");
+    let (channel, rest) = word.split_once(':').unwrap_or((word, ""));
+    let channel = number(channel);
+    if !is_wanting(merger, width, channel) {
+        return shown.add("unwanted");
     }
-    let packet = packet_of(alloc, rest)?;
-    merger.take_in(channel, packet);
-    Ok(())
+    match packet_of(alloc, rest) {
+        Ok(packet) => merger.take_in(channel, packet),
+        Err(_) => shown.add("no memory"),
+    }
 }
 
-fn add_wants<M: Merges>(
-    merger: &M,
-    width: u32,
-    channel: u32,
-    shown: &mut String,
-) -> Result<(), AllocError>
-    requires { M.width merger.now ≡ width }
-{
-    if channel < width && merger.does_want(channel) {
-        shown.push_str("+")
-    } else {
-        shown.push_str("-")
-    }
+fn add_truth(shown: &mut Text, is_so: bool) {
+    shown.add(if is_so { "+" } else { "-" });
 }
 
 // What one word of a script tells.
-fn add_word<M: Merges>(
-    alloc: Global,
-    merger: &mut M,
-    width: u32,
-    word: &str,
-    shown: &mut String,
-) -> Result<(), AllocError>
+fn add_word<M: Merges>(alloc: Global, merger: &mut M, width: u32, word: &str, shown: &mut Text)
     requires { M.width merger.old ≡ width }
     ensures { M.width merger.new ≡ width }
 {
-    if word == "?" {
-        return add_given(merger, shown);
+    match word.strip_suffix("?") {
+        Some("") => add_given(merger, shown),
+        Some("cut") => add_truth(shown, merger.was_cut()),
+        Some(channel) => add_truth(shown, is_wanting(merger, width, number(channel))),
+        None => add_packet(alloc, merger, width, word, shown),
     }
-    if word == "cut?" {
-        let told = if merger.was_cut() { "+" } else { "-" };
-        return shown.push_str(told);
-    }
-    if let Some(channel) = word.strip_suffix("?") {
-        let channel = channel.parse::<u32>().unwrap_or(0);
-        return add_wants(merger, width, channel, shown);
-    }
-    add_packet(alloc, merger, width, word, shown)
 }
 
 /// What a merger of `width` channels tells for the words of a script.
 pub(crate) fn told<M: Merges>(
     alloc: Global,
-    mut merger: M,
+    merger: Result<M, NoMemory>,
     width: u32,
     script: &str,
 ) -> Result<String, AllocError>
-    requires { M.width merger ≡ width }
+    requires { IfOk merger (λ m. M.width m ≡ width) }
 {
-    let mut shown = String::new(alloc);
+    let Ok(mut merger) = merger else {
+        return Err(AllocError);
+    };
+    let mut shown = Text::new(alloc);
     for word in script.split_whitespace() {
-        add_word(alloc, &mut merger, width, word, &mut shown)?;
+        add_word(alloc, &mut merger, width, word, &mut shown);
     }
-    Ok(shown)
+    shown.finish()
 }
