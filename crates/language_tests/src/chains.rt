@@ -1,9 +1,7 @@
 //! Calls inside calls.
-use crate::values::Values;
 use expr_eval::DEEPEST;
-use std::alloc::{AllocError, Global};
-use std::test::Fail;
-use test_texts::rows::expect;
+use std::alloc::Global;
+use test_texts::text::Text;
 
 /// How many functions a chain has: 750, one more than may call each other. A call takes two of how deep
 /// codes and statements may nest, itself and the `return` of its function, and the number at the end one.
@@ -16,18 +14,20 @@ int32 least() { return -(-f747()); }
 int32 more() { return -(-f746()); }
 "#;
 
-// A unit whose first function gives 1, and in which each other one of a chain calls the one before it.
-fn chain(alloc: Global) -> Result<String, AllocError> {
-    let mut unit = "int32 f0() { return 1; }".to_string(alloc)?;
+/// A unit whose first function gives 1, and in which each other one of a chain calls the one before it.
+pub(crate) fn chain(alloc: Global) -> Text {
+    let mut unit = Text::new(alloc);
+    unit.add("int32 f0() { return 1; }");
     for number in 1..COUNT {
-        let before = number - 1;
-        write!(unit, " int32 f{number}() {{ return f{before}(); }}")?;
+        unit.add_place(" int32 f", number);
+        unit.add_place("() { return f", number - 1);
+        unit.add("(); }");
     }
-    unit.push_str(BEHIND)?;
-    Ok(unit)
+    unit.add(BEHIND);
+    unit
 }
 
-const ROWS: &str = r#"
+pub(crate) const ROWS: &str = r#"
 f499() @ 500 => 1 | 0
 f499() @ 499 => Turns
 # No more than 1,500 codes and statements may nest, those of called functions too.
@@ -42,11 +42,3 @@ least() @ 749 => no memory
 -more() @ 748 => -1 | 0
 -(-more()) @ 748 => no memory
 "#;
-
-#[test]
-fn calls_nest_at_most_so_deep(rt: HostRuntime) -> Result<(), Fail> {
-    let unit = chain(rt.alloc())?;
-    let values = Values::new(rt.alloc(), unit.as_str(), None)?;
-    expect(rt.alloc(), &values, &[ROWS])?;
-    Ok(())
-}

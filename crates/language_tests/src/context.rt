@@ -133,25 +133,6 @@ impl Context {
         Ok(())
     }
 
-    // Adds a variable, or a port with its tuple.
-    fn add_valued(
-        &mut self,
-        name: Name,
-        mutable: bool,
-        is_port: bool,
-        valued: Valued,
-    ) -> Result<(), Unanswered>
-        requires holds { Holds self.old.scope self.old.env self.old.functions }
-        requires fits { IsTrue (fits valued.kind valued.value) }
-        ensures { OnOk result (Holds self.new.scope self.new.env self.new.functions) }
-    {
-        if is_port {
-            self.add_port(name, valued)
-        } else {
-            self.add_variable(name, mutable, valued)
-        }
-    }
-
     // The value of what is declared with this type.
     fn declared(
         &self,
@@ -192,7 +173,10 @@ impl Context {
         };
         let name = Items::from_slice(alloc, name.what.as_slice())?;
         let valued = self.declared(alloc, types, kind, value)?;
-        self.add_valued(name, *mutable, is_port, valued)
+        if is_port {
+            return self.add_port(name, valued);
+        }
+        self.add_variable(name, *mutable, valued)
     }
 
     // Adds declared variables, or ports with their tuples.

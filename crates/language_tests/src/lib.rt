@@ -3,6 +3,8 @@
 #![tactic(auto)]
 
 #[cfg(test)]
+mod asked;
+#[cfg(test)]
 mod bodies;
 #[cfg(test)]
 mod chains;
@@ -14,6 +16,8 @@ mod reading;
 mod scopes;
 #[cfg(test)]
 mod statements;
+#[cfg(test)]
+mod tests;
 #[cfg(test)]
 mod types;
 #[cfg(test)]

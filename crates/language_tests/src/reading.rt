@@ -6,6 +6,7 @@ use expr_parser::{ParsedExpr, SyntaxAnswer, parse_expr};
 use spl_lexer::lex;
 use spl_tree::{Definition, Expr, Stmt, Tokens, Unit};
 use std::alloc::Global;
+use test_texts::text::Text;
 use unit_parser::parse_unit;
 
 /// The tokens of a text.
@@ -41,9 +42,13 @@ pub(crate) fn expr_of(alloc: Global, text: &str) -> Result<Expr, Unanswered> {
     expr_from(alloc, &tokens, 0)
 }
 
-/// The unit that a text is.
-pub(crate) fn unit_of(alloc: Global, text: &str) -> Result<Unit, Unanswered> {
-    let tokens = tokens_of(alloc, text)?;
+/// The unit that pieces of a text are, one after another.
+pub(crate) fn unit_of(alloc: Global, pieces: &[&str]) -> Result<Unit, Unanswered> {
+    let mut text = Text::new(alloc);
+    for piece in pieces {
+        text.add(piece);
+    }
+    let tokens = tokens_of(alloc, text.finish()?.as_str())?;
     match parse_unit(alloc, &tokens) {
         Ok(unit) => Ok(unit),
         Err(SyntaxAnswer::Unexpected(at)) => Err(Unanswered::Unexpected(at)),

@@ -17,14 +17,26 @@ fn first_type(alloc: Global, unit: &Unit) -> Result<SplType, Unanswered> {
         return Err(Unanswered::Unread("no type"));
     };
     let table = TypeTable::of_unit(alloc, unit)?;
-    Ok(shape_of(alloc, &TypeScope::of_unit(&table), &definition.shape)?)
+    match shape_of(alloc, &TypeScope::of_unit(&table), &definition.shape) {
+        Ok(kind) => Ok(kind),
+        Err(answer) => Err(Unanswered::Untyped(answer)),
+    }
 }
 
 /// The type of a text.
 pub(crate) fn type_named(alloc: Global, text: &str) -> Result<SplType, Unanswered> {
-    let text = format!(in alloc; "type Wanted = {text};")?;
-    let unit = unit_of(alloc, text.as_str())?;
+    let unit = unit_of(alloc, &["type Wanted = ", text, ";"])?;
     first_type(alloc, &unit)
+}
+
+/// Where texts stand: in a unit with its variables, and with its ports unless a marker came. With the text of
+/// another unit, the `$` parameters of the composite with which this begins are there, and so are its functions
+/// whose types aren't any.
+#[derive(Clone, Copy)]
+pub(crate) struct Place<'t> {
+    pub(crate) unit: &'t str,
+    pub(crate) came: Option<Marker>,
+    pub(crate) composite: Option<&'t str>,
 }
 
 /// The scope of a unit with its variables, and its ports unless a marker came.
@@ -33,7 +45,7 @@ pub(crate) fn scope_of(
     text: &str,
     came: Option<Marker>,
 ) -> Result<Scope, Unanswered> {
-    let unit = unit_of(alloc, text)?;
+    let unit = unit_of(alloc, &[text])?;
     let context = Context::new(alloc, &unit, &unit, came)?;
     Ok(context.scope)
 }
@@ -60,15 +72,18 @@ fn found(
     }
 }
 
-fn dollar(
+// Adds a parameter to others.
+fn add_dollar(
     alloc: Global,
     types: &TypeScope,
     scope: &Scope,
     parameter: &CompositeParameter,
-) -> Result<Dollar, Unanswered> {
+    dollars: &mut Items<Dollar>,
+) -> Result<(), Unanswered> {
     let name = Items::from_slice(alloc, parameter.name.what.as_slice())?;
     let found = found(alloc, types, scope, parameter)?;
-    Ok(Dollar { name, found })
+    dollars.push(Dollar { name, found })?;
+    Ok(())
 }
 
 fn dollars(
@@ -81,7 +96,7 @@ fn dollars(
     let types = TypeScope::of_unit(&table);
     let mut made = Items::new(alloc);
     for parameter in parameters {
-        made.push(dollar(alloc, &types, scope, parameter)?)?;
+        add_dollar(alloc, &types, scope, parameter, &mut made)?;
     }
     Ok(made)
 }
@@ -98,11 +113,12 @@ fn add_parameters(alloc: Global, scope: &mut Scope, unit: &Unit) -> Result<(), U
     Ok(())
 }
 
-/// The scope of a unit where a tuple came, with the `$` parameters of the composite with which another
-/// unit begins, and with the functions of that unit whose types aren't any.
-pub(crate) fn scope_in(alloc: Global, text: &str, composite: &str) -> Result<Scope, Unanswered> {
-    let unit = unit_of(alloc, composite)?;
-    let mut scope = scope_of(alloc, text, None)?;
-    add_parameters(alloc, &mut scope, &unit)?;
+/// The scope of a place.
+pub(crate) fn scope_at(alloc: Global, place: &Place) -> Result<Scope, Unanswered> {
+    let mut scope = scope_of(alloc, place.unit, place.came)?;
+    if let Some(composite) = place.composite {
+        let unit = unit_of(alloc, &[composite])?;
+        add_parameters(alloc, &mut scope, &unit)?;
+    }
     Ok(scope)
 }

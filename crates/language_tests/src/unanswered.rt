@@ -1,14 +1,12 @@
 //! Why a text has no answer.
 use language_model::TypeAnswer;
 use spl_value::{FaultKind, NoMemory};
-use std::alloc::AllocError;
-use std::fmt;
+use std::alloc::{AllocError, Global};
 use test_texts::refusals::add_check_refusal;
 use test_texts::text::Text;
 use test_texts::values::fault;
 
 /// Why there is no answer to a text.
-#[derive(Drop)]
 pub enum Unanswered {
     /// The row isn't what it should be.
     Unread(&'static str),
@@ -19,18 +17,15 @@ pub enum Unanswered {
     Memory,
 }
 
-impl fmt::Debug for Unanswered {
-    fn fmt<W: fmt::Write>(&self, f: &mut fmt::Formatter<W>) -> fmt::Result {
+impl Drop for Unanswered {
+    fn drop(self) {
         match self {
-            Unanswered::Unread(why) => write!(f, "{}", *why),
-            _ => write!(f, "no answer"),
+            Unanswered::Unread(_) => {}
+            Unanswered::Unexpected(_) => {}
+            Unanswered::Untyped(_) => {}
+            Unanswered::Fault(_) => {}
+            Unanswered::Memory => {}
         }
-    }
-}
-
-impl From<&'static str> for Unanswered {
-    fn from(why: &'static str) -> Unanswered {
-        Unanswered::Unread(why)
     }
 }
 
@@ -63,11 +58,15 @@ fn add_unanswered(text: &mut Text, why: &Unanswered) {
     }
 }
 
-/// The answer to a row, or why there is none.
-pub(crate) fn finish(out: Text, outcome: Result<(), Unanswered>) -> Result<String, AllocError> {
+/// The answer to a row, in which a tab is written `␉`, or why there is none.
+pub(crate) fn finish(
+    alloc: Global,
+    out: Text,
+    outcome: Result<(), Unanswered>,
+) -> Result<String, AllocError> {
     let mut out = out;
     if let Err(why) = outcome {
         add_unanswered(&mut out, &why);
     }
-    out.finish()
+    out.finish()?.replace(alloc, "\t", "␉")
 }

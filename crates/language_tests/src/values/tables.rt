@@ -4,9 +4,12 @@ mod comparisons;
 mod integers;
 mod parts;
 
+use crate::asked::Asked;
+use spl_tree::Marker;
+
 /// Of the two variables `x` the last counts. The least number of a signed type has no literal. Both ports
 /// have an attribute `key`, and variables have the names `qty` and `s` too.
-pub(super) const UNIT: &str = r#"
+const UNIT: &str = r#"
 int32 inc(int32 n) { return n + 1; }
 int32 twice(int32 n) { return inc(inc(n)); }
 int32 thrice(int32 n) { return inc(twice(n)); }
@@ -55,10 +58,7 @@ void ports() {
 }
 "#;
 
-/// The results of expressions where a tuple came.
-pub(super) const VALUES: [&str; 3] = [integers::ROWS, comparisons::ROWS, parts::ROWS];
-
-pub(super) const WINDOW: &str = r#"
+const WINDOW: &str = r#"
 # the marker is a window marker
 currentPunct() == Sys.WindowMarker => true
 currentPunct() == Sys.FinalMarker => false
@@ -77,7 +77,7 @@ inc(1) => 2
 qty => 7
 "#;
 
-pub(super) const FINAL: &str = r#"
+const FINAL: &str = r#"
 # the marker is the final marker
 currentPunct() == Sys.WindowMarker => false
 currentPunct() == Sys.FinalMarker => true
@@ -88,11 +88,16 @@ currentPunct() == Sys.WindowMarker ? 1 / zero : 2 => 2
 [currentPunct() != Sys.WindowMarker] => [true]
 "#;
 
-/// Conditions, each with the tuples that came and its results there.
-pub(super) const CONDITIONS: &[(&str, &str)] = &[
-    ("100l / price > 1l", QUOTIENTS),
-    ("(int8)price < (int8)0", CASTS),
-    ("price > 10l", ABOVE_TEN),
+/// Expressions where a tuple came and where a marker did, and conditions on the tuples that came.
+pub(crate) const ROWS: &[(Asked, &str)] = &[
+    (Asked::Value(UNIT, None), integers::ROWS),
+    (Asked::Value(UNIT, None), comparisons::ROWS),
+    (Asked::Value(UNIT, None), parts::ROWS),
+    (Asked::Value(UNIT, Some(Marker::Window)), WINDOW),
+    (Asked::Value(UNIT, Some(Marker::Final)), FINAL),
+    (Asked::Condition("100l / price > 1l"), QUOTIENTS),
+    (Asked::Condition("(int8)price < (int8)0"), CASTS),
+    (Asked::Condition("price > 10l"), ABOVE_TEN),
 ];
 
 const QUOTIENTS: &str = r#"
