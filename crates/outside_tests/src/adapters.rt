@@ -5,36 +5,37 @@ ghost use Rattle.file_adapters.specs.Sinks.{AreDistinct};
 use crate::shown::{add_faults, add_held, numbers};
 use file_adapters::{Sink, Sunk, write_sinks};
 use memory_files::MemoryShelf;
-use spl_value::{Item, Items, Name, Value, Values};
+use spl_value::{Item, Items, NoMemory, Value, Values};
 use std::alloc::{AllocError, Global};
-use std::test::Fail;
-use test_texts::rows::{Answers, expect};
-use test_texts::signs::{with_signs, words};
+use test_texts::rows::{Answers, Untrue, expect};
+use test_texts::signs::{with_signs, without_signs};
 use test_texts::text::Text;
 use test_texts::words::{bytes, cut, number};
 
-// The values of a tuple.
-struct Rows;
-
-// The streams of the sinks `a` and `b`, or `none` for no sinks, and the call that fails: one of the
-// shelf's, or a write to `a`.
+// What becomes of sinks of two streams: `0 1` are the streams of the sinks `a` and `b`, `none` is no sinks, and
+// after ` | ` stands the call that fails, one of the shelf's, or a write to `a`. `row 1 x` is a stream with
+// one tuple and the sink `a`.
 struct Sinks;
 
+fn text_of(alloc: Global, word: &str) -> Result<Value, AllocError> {
+    let text = without_signs(alloc, word)?;
+    Ok(Value::Text(bytes(alloc, text.as_str())?))
+}
+
 fn value_of(alloc: Global, word: &str) -> Result<Value, AllocError> {
-    match word {
-        "true" => Ok(Value::Bool(true)),
-        "false" => Ok(Value::Bool(false)),
-        _ => match word.parse::<i64>() {
-            Ok(number) => Ok(Value::Int(i128::from(number))),
-            Err(_) => Ok(Value::Text(bytes(alloc, word)?)),
-        },
+    if word == "true" {
+        return Ok(Value::Bool(true));
+    }
+    match word.parse::<i64>() {
+        Ok(number) => Ok(Value::Int(i128::from(number))),
+        Err(_) => text_of(alloc, word),
     }
 }
 
 fn tuple_of(alloc: Global, row: &str) -> Result<Values, AllocError> {
     let mut values = Items::new(alloc);
-    for word in words(alloc, row)?.as_slice() {
-        values.push(value_of(alloc, word.as_str())?)?;
+    for word in row.split(' ') {
+        values.push(value_of(alloc, word)?)?;
     }
     Ok(values)
 }
@@ -97,32 +98,6 @@ fn sunk_of(
     Ok(write_sinks(alloc, shelf, &sinks, streams, &None))
 }
 
-fn shown_row(alloc: Global, shelf: &MemoryShelf, sunk: &Sunk) -> Result<String, AllocError> {
-    let name = bytes(alloc, "a")?;
-    let mut shown = Text::new(alloc);
-    add_sunk(&mut shown, sunk);
-    shown.add("; ");
-    add_held(&mut shown, shelf.file(&name));
-    with_signs(alloc, shown.finish()?.as_str())
-}
-
-// What becomes of a stream of the file `a`.
-fn row_sunk(
-    alloc: Global,
-    shelf: &mut MemoryShelf,
-    streams: &Items<Items<Item>>,
-) -> Result<String, AllocError> {
-    let sunk = sunk_of(alloc, shelf, "0 1", streams)?;
-    shown_row(alloc, shelf, &sunk)
-}
-
-impl Answers for Rows {
-    fn answer(&self, alloc: Global, text: &str) -> Result<String, AllocError> {
-        let streams = streams_of(alloc, &[text])?;
-        row_sunk(alloc, &mut MemoryShelf::new(alloc), &streams)
-    }
-}
-
 fn add_place(text: &mut Text, failed: &str, place: usize) {
     text.add(failed);
     text.add(" ");
@@ -144,25 +119,24 @@ fn add_sunk(text: &mut Text, sunk: &Sunk) {
     }
 }
 
-fn put(alloc: Global, shelf: &mut MemoryShelf, name: &str, held: &str) -> Result<(), AllocError> {
-    let done = shelf.put_file(&bytes(alloc, name)?, bytes(alloc, held)?);
-    done.map_err(|_| AllocError)
+fn put(alloc: Global, shelf: &mut MemoryShelf, name: &str, held: &str) -> Result<(), NoMemory> {
+    let name = bytes(alloc, name)?;
+    shelf.put_file(&name, bytes(alloc, held)?)
 }
 
 // Lets the shelf's calls of this number fail, or the writes of this number to `a`.
-fn fail(alloc: Global, shelf: &mut MemoryShelf, failing: &str) -> Result<(), AllocError> {
+fn fail(alloc: Global, shelf: &mut MemoryShelf, failing: &str) -> Result<(), NoMemory> {
     let (kind, number) = cut(failing);
     let numbers = numbers(alloc, number)?;
     if kind == "call" {
         shelf.fail_calls(numbers);
         return Ok(());
     }
-    let done = shelf.fail_writes(&bytes(alloc, "a")?, numbers);
-    done.map_err(|_| AllocError)
+    shelf.fail_writes(&bytes(alloc, "a")?, numbers)
 }
 
 // A shelf with two files, some of whose calls fail.
-fn shelf_of(alloc: Global, failing: &str) -> Result<MemoryShelf, AllocError> {
+fn shelf_of(alloc: Global, failing: &str) -> Result<MemoryShelf, NoMemory> {
     let mut shelf = MemoryShelf::new(alloc);
     put(alloc, &mut shelf, "b", "was here")?;
     put(alloc, &mut shelf, "c", "stays")?;
@@ -170,60 +144,90 @@ fn shelf_of(alloc: Global, failing: &str) -> Result<MemoryShelf, AllocError> {
     Ok(shelf)
 }
 
-fn add_file(text: &mut Text, shelf: &MemoryShelf, name: &Name) {
+fn add_file(alloc: Global, text: &mut Text, shelf: &MemoryShelf, name: &str) {
     text.add("; ");
-    text.add_bytes(name.as_slice());
+    text.add(name);
     text.add(" ");
-    add_held(text, shelf.file(name));
-    text.add(" ");
-    add_faults(text, shelf.tallies(name));
-}
-
-fn shown_files(alloc: Global, shelf: &MemoryShelf, sunk: &Sunk) -> Result<String, AllocError> {
-    let mut shown = Text::new(alloc);
-    add_sunk(&mut shown, sunk);
-    for name in "a b c".split(' ') {
-        add_file(&mut shown, shelf, &bytes(alloc, name)?);
+    match bytes(alloc, name) {
+        Ok(name) => {
+            add_held(text, shelf.file(&name));
+            text.add(" ");
+            add_faults(text, shelf.tallies(&name));
+        }
+        Err(_) => text.add("no memory"),
     }
-    with_signs(alloc, shown.finish()?.as_str())
 }
 
-// What becomes of sinks of two streams.
-fn files_sunk(
+// What becomes of the sinks, and then the files of these names.
+fn add_files(
     alloc: Global,
-    shelf: &mut MemoryShelf,
+    text: &mut Text,
+    shelf: Result<MemoryShelf, NoMemory>,
     sinks: &str,
     streams: &Items<Items<Item>>,
-) -> Result<String, AllocError> {
-    let sunk = sunk_of(alloc, shelf, sinks, streams)?;
-    shown_files(alloc, shelf, &sunk)
+    names: &str,
+) -> Result<(), NoMemory> {
+    let mut shelf = shelf?;
+    let sunk = sunk_of(alloc, &mut shelf, sinks, streams)?;
+    add_sunk(text, &sunk);
+    for name in names.split(' ') {
+        add_file(alloc, text, &shelf, name);
+    }
+    Ok(())
+}
+
+fn add_row(alloc: Global, text: &mut Text, row: &str) -> Result<(), NoMemory> {
+    let streams = streams_of(alloc, &[row])?;
+    add_files(
+        alloc,
+        text,
+        Ok(MemoryShelf::new(alloc)),
+        "0 1",
+        &streams,
+        "a",
+    )
+}
+
+fn add_both(alloc: Global, text: &mut Text, words: &str) -> Result<(), NoMemory> {
+    let (sinks, failing) = words.split_once(" | ").unwrap_or((words, ""));
+    let streams = streams_of(alloc, &["1 | 2 | 3", "x,y | z"])?;
+    add_files(
+        alloc,
+        text,
+        shelf_of(alloc, failing),
+        sinks,
+        &streams,
+        "a b c",
+    )
 }
 
 impl Answers for Sinks {
     fn answer(&self, alloc: Global, text: &str) -> Result<String, AllocError> {
-        let (sinks, failing) = text.split_once(" | ").unwrap_or((text, ""));
-        let streams = streams_of(alloc, &["1 | 2 | 3", "x,y | z"])?;
-        let mut shelf = shelf_of(alloc, failing)?;
-        files_sunk(alloc, &mut shelf, sinks, &streams)
+        let mut shown = Text::new(alloc);
+        let done = match text.strip_prefix("row ") {
+            Some(row) => add_row(alloc, &mut shown, row),
+            None => add_both(alloc, &mut shown, text),
+        };
+        if done.is_err() {
+            shown.add("no memory");
+        }
+        with_signs(alloc, shown.finish()?.as_str())
     }
 }
 
 #[test]
-fn sinks_have_these_rows(rt: HostRuntime) -> Result<(), Fail> {
-    let alloc = rt.alloc();
-    expect(alloc, &Rows, &[ROWS])?;
-    expect(alloc, &Sinks, &[SINKS])?;
-    Ok(())
+fn sinks_have_these_rows(rt: HostRuntime) -> Result<(), Untrue> {
+    expect(rt.alloc(), &Sinks, &[ROWS, SINKS])
 }
 
 const ROWS: &str = r#"
--5 a,b true => done 1 0; -5,"a,b",true␊
--5 q"q true => done 1 0; -5,"q""q",true␊
--5 ∅ true => done 1 0; -5,,true␊
--5 a␣b true => done 1 0; -5,a b,true␊
+row -5 a,b true => done 1 0; a -5,"a,b",true␊ 0 0 0 0
+row -5 q"q true => done 1 0; a -5,"q""q",true␊ 0 0 0 0
+row -5 ∅ true => done 1 0; a -5,,true␊ 0 0 0 0
+row -5 a␣b true => done 1 0; a -5,a b,true␊ 0 0 0 0
 
 # an empty text alone
-∅ => done 1 0; ""␊
+row ∅ => done 1 0; a ""␊ 0 0 0 0
 "#;
 
 const SINKS: &str = r#"

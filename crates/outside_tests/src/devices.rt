@@ -1,4 +1,12 @@
 //! Feeds and pours alone, and who starts.
+//!
+//! | Call | Answer |
+//! |---|---|
+//! | `feed 9000 2` | of a feed of so many bytes, whose reads of this number and of 90 fail: how many reads of 8,192 give |
+//! | `pour 2 a b` | what each write to a pour in memory takes, of which one fails, what the pour then holds, and its faults |
+//! | `plain alone` | of a feed and a pour whose calls never fail: how much a read of two bytes gives, what comes after it, and what the pour takes of that |
+//! | `poured`, `refused` | what is poured on a writer that takes all, and what a pour answers on one that takes nothing |
+//! | `all`, `but 1 3` | who starts of the groups 0 to 3 |
 use crate::shown::{fives, numbers};
 use feed_pour::{
     AllStart, Failed, Feed, Gate, NotThese, OpenGate, Pour, PourAnswer, ReadAll, Starter,
@@ -9,15 +17,9 @@ use spl_value::Items;
 use std::alloc::{AllocError, Global};
 use std::io;
 use std::io::Write;
-use std::test::Fail;
-use test_texts::rows::{Answers, expect};
-use test_texts::signs::{with_signs, without_signs};
+use test_texts::rows::{Answers, Untrue, expect};
 use test_texts::text::Text;
 use test_texts::words::{bytes, cut, number};
-
-// A feed of a number of bytes, of whose reads those of given numbers and the 90th fail: how many bytes reads of
-// 8,192 give, and whether one fails.
-struct FeedReads;
 
 // The bytes that reads of 8,192 give, and whether a read failed.
 fn drained(feed: &mut MemoryFeed) -> (usize, bool) {
@@ -40,29 +42,14 @@ fn feed_of(alloc: Global, text: &str) -> Result<MemoryFeed, AllocError> {
     Ok(MemoryFeed::new(fives(alloc, number(size))?, failing))
 }
 
-impl Answers for FeedReads {
-    fn answer(&self, alloc: Global, text: &str) -> Result<String, AllocError> {
-        let mut feed = feed_of(alloc, text)?;
-        let (given, has_failed) = drained(&mut feed);
-        let end = if has_failed { "and failed" } else { "in all" };
-        format!(in alloc; "{given} {end}")
-    }
+fn add_feed(text: &mut Text, feed: Result<MemoryFeed, AllocError>) {
+    let Ok(mut feed) = feed else {
+        return text.add("no memory");
+    };
+    let (given, has_failed) = drained(&mut feed);
+    text.add_number(given as i128);
+    text.add(if has_failed { " and failed" } else { " in all" });
 }
-
-const READS: &str = r#"
-0 1 => 0 and failed
-0 2 => 0 in all
-8192 2 => 8192 and failed
-8192 3 => 8192 in all
-20000 3 => 16384 and failed
-10000 3 => 10000 and failed
-10000 4 => 10000 in all
-10000 0 => 10000 in all
-"#;
-
-// Writes to a pour in memory, of which one fails: what each takes, what the pour then holds, and its
-// faults.
-struct PourWrites;
 
 fn add_write(text: &mut Text, pour: &mut MemoryPour, piece: &str) {
     let piece = piece.as_bytes();
@@ -78,7 +65,7 @@ fn add_write(text: &mut Text, pour: &mut MemoryPour, piece: &str) {
 }
 
 fn add_writes(text: &mut Text, mut pour: MemoryPour, pieces: &str) {
-    for piece in pieces.split(' ') {
+    for piece in pieces.split_whitespace() {
         add_write(text, &mut pour, piece);
     }
     text.add_bytes(pour.bytes());
@@ -88,24 +75,13 @@ fn add_writes(text: &mut Text, mut pour: MemoryPour, pieces: &str) {
     text.add_bytes(pour.into_bytes().as_slice());
 }
 
-impl Answers for PourWrites {
-    fn answer(&self, alloc: Global, text: &str) -> Result<String, AllocError> {
-        let text = without_signs(alloc, text)?;
-        let (failing, pieces) = cut(text.as_str());
-        let failing = numbers(alloc, failing)?;
-        let mut shown = Text::new(alloc);
-        add_writes(&mut shown, MemoryPour::new(alloc, failing), pieces);
-        with_signs(alloc, shown.finish()?.as_str())
+fn add_pour(alloc: Global, text: &mut Text, words: &str) {
+    let (failing, pieces) = cut(words);
+    match numbers(alloc, failing) {
+        Ok(failing) => add_writes(text, MemoryPour::new(alloc, failing), pieces),
+        Err(_) => text.add("no memory"),
     }
 }
-
-const POUR_WRITES: &str = r#"
-2 a␊ b␊ c␊ => 2; failed; 2; a␊c␊; 1; a␊c␊
-"#;
-
-// A feed and a pour whose calls never fail: how much a read of two bytes gives, what comes after it, and
-// what the pour takes of that.
-struct PlainRest;
 
 fn add_rest(alloc: Global, text: &mut Text, mut feed: PlainFeed, mut pour: PlainPour) {
     let mut two = [0u8; 2];
@@ -123,18 +99,12 @@ fn add_rest(alloc: Global, text: &mut Text, mut feed: PlainFeed, mut pour: Plain
     text.add_bytes(pour.bytes());
 }
 
-impl Answers for PlainRest {
-    fn answer(&self, alloc: Global, text: &str) -> Result<String, AllocError> {
-        let feed = PlainFeed::new(bytes(alloc, text)?);
-        let mut shown = Text::new(alloc);
-        add_rest(alloc, &mut shown, feed, PlainPour::new(alloc));
-        shown.finish()
+fn add_plain(alloc: Global, text: &mut Text, words: &str) {
+    match bytes(alloc, words) {
+        Ok(bytes) => add_rest(alloc, text, PlainFeed::new(bytes), PlainPour::new(alloc)),
+        Err(_) => text.add("no memory"),
     }
 }
-
-const PLAIN_REST: &str = r#"
-alone => 2; one; one
-"#;
 
 #[derive(Drop)]
 struct Full;
@@ -149,68 +119,84 @@ impl Write for Full {
     }
 }
 
-// What is poured on a writer that takes all.
-fn poured(alloc: Global) -> Result<String, AllocError> {
+fn add_poured(alloc: Global, text: &mut Text) {
     let mut pour = StdoutPour::new(Vec::new(alloc));
-    let mut text = Text::new(alloc);
-    if write_all(&mut pour, b"row\n").is_ok() {
+    if write_all(&mut pour, b"row").is_ok() {
         text.add_bytes(pour.into_writer().as_slice());
     }
-    text.finish()
 }
 
-// What a pour answers on a writer that takes nothing.
-fn refused(alloc: Global) -> Result<String, AllocError> {
-    let mut full = StdoutPour::new(Full);
-    match full.write(b"row\n") {
-        Ok(_) => "taken".to_string(alloc),
-        Err(PourAnswer::Failed) => "failed".to_string(alloc),
-        Err(PourAnswer::Memory) => "no memory".to_string(alloc),
-    }
+fn add_refused(text: &mut Text) {
+    text.add(match StdoutPour::new(Full).write(b"row") {
+        Ok(_) => "taken",
+        Err(PourAnswer::Failed) => "failed",
+        Err(PourAnswer::Memory) => "no memory",
+    });
 }
 
 // Who starts of the groups 0 to 3.
-fn started<S: Starter>(alloc: Global, starter: &mut S) -> Result<String, AllocError> {
-    let mut text = Text::new(alloc);
+fn add_started<S: Starter>(text: &mut Text, starter: &mut S) {
     for group in 0..4 {
         text.add(if starter.may_start(group) { "+" } else { "-" });
     }
-    text.finish()
 }
 
-fn all_but_two(alloc: Global) -> Result<NotThese, AllocError> {
-    let groups = Items::from_slice(alloc, &[1u32, 3])?;
-    Ok(NotThese { groups })
+fn add_all_but(alloc: Global, text: &mut Text, words: &str) {
+    let (first, second) = cut(words);
+    match Items::from_slice(alloc, &[number(first), number(second)]) {
+        Ok(groups) => add_started(text, &mut NotThese { groups }),
+        Err(_) => text.add("no memory"),
+    }
 }
 
-// Pours over writers, and who starts.
+// Calls of feeds, pours and starters.
 struct Calls;
 
 impl Answers for Calls {
     fn answer(&self, alloc: Global, text: &str) -> Result<String, AllocError> {
         OpenGate.before_put(0, 0);
-        match text {
-            "poured" => with_signs(alloc, poured(alloc)?.as_str()),
-            "refused" => refused(alloc),
-            "all but 1 and 3" => started(alloc, &mut all_but_two(alloc)?),
-            _ => started(alloc, &mut AllStart),
+        let (call, words) = cut(text);
+        let mut shown = Text::new(alloc);
+        match call {
+            "feed" => add_feed(&mut shown, feed_of(alloc, words)),
+            "pour" => add_pour(alloc, &mut shown, words),
+            "plain" => add_plain(alloc, &mut shown, words),
+            "poured" => add_poured(alloc, &mut shown),
+            "refused" => add_refused(&mut shown),
+            "but" => add_all_but(alloc, &mut shown, words),
+            _ => add_started(&mut shown, &mut AllStart),
         }
+        shown.finish()
     }
 }
 
 const CALLS: &str = r#"
-poured => row␊
+# Reads
+feed 0 1 => 0 and failed
+feed 0 2 => 0 in all
+feed 8192 2 => 8192 and failed
+feed 8192 3 => 8192 in all
+feed 20000 3 => 16384 and failed
+feed 10000 3 => 10000 and failed
+feed 10000 4 => 10000 in all
+feed 10000 0 => 10000 in all
+
+# Writes
+pour 2 ab cd ef => 2; failed; 2; abef; 1; abef
+
+# Calls that never fail
+plain alone => 2; one; one
+
+# Pours over writers
+poured => row
 refused => failed
-all but 1 and 3 => +-+-
+
+# Who starts
+but 1 3 => +-+-
 all => ++++
 "#;
 
 #[test]
-fn feeds_pours_and_starters_answer_as_their_rows_say(rt: HostRuntime) -> Result<(), Fail> {
-    let alloc = rt.alloc();
-    expect(alloc, &FeedReads, &[READS])?;
-    expect(alloc, &PourWrites, &[POUR_WRITES])?;
-    expect(alloc, &PlainRest, &[PLAIN_REST])?;
-    expect(alloc, &Calls, &[CALLS])?;
-    Ok(())
+fn feeds_pours_and_starters_answer_as_their_rows_say(rt: HostRuntime) -> Result<(), Untrue> {
+    expect(rt.alloc(), &Calls, &[CALLS])
 }

@@ -5,10 +5,8 @@ use spl_value::{Bytes, Items};
 use std::alloc::{AllocError, Global};
 use std::fs;
 use std::rt::Files;
-use std::test::Fail;
-use test_texts::rows::{compare, no_others};
+use test_texts::rows::{Untrue, compare, no_others};
 use test_texts::text::Text;
-use test_texts::words::bytes;
 
 // 200,000 bytes, in rows of ten.
 fn rows(alloc: Global) -> Result<Vec<u8>, AllocError> {
@@ -22,12 +20,25 @@ fn rows(alloc: Global) -> Result<Vec<u8>, AllocError> {
     Ok(rows)
 }
 
-fn add_opened<H: Shelf>(text: &mut Text, shelf: &mut H, name: &Bytes) {
+fn add_counts<R: Files + Drop>(text: &mut Text, shelf: &FileShelf<R>, name: &Bytes)
+where
+    R::File: Send,
+{
+    text.add(" ");
+    add_faults(text, shelf.tallies(name));
+    text.add("; ");
+}
+
+fn add_opened<R: Files + Drop>(text: &mut Text, shelf: &mut FileShelf<R>, name: &Bytes)
+where
+    R::File: Send,
+{
     text.add(match shelf.open_in(name) {
         Opened::Ok(_) => "opened",
         Opened::Failed => "not opened",
         Opened::Memory => "no memory",
     });
+    add_counts(text, shelf, name);
 }
 
 // Writes a file row by row, and finishes it.
@@ -42,12 +53,21 @@ fn is_written<H: Shelf>(shelf: &mut H, name: &Bytes, rows: &[u8]) -> bool {
     }
 }
 
-fn add_written<H: Shelf>(text: &mut Text, shelf: &mut H, name: &Bytes, rows: &[u8]) {
+fn add_written<R: Files + Drop>(
+    text: &mut Text,
+    shelf: &mut FileShelf<R>,
+    name: &Bytes,
+    rows: &[u8],
+)
+where
+    R::File: Send,
+{
     text.add(if is_written(shelf, name, rows) {
-        "; written"
+        "written"
     } else {
-        "; not written"
+        "not written"
     });
+    add_counts(text, shelf, name);
 }
 
 fn is_whole(read: Fetched, want: &[u8]) -> bool {
@@ -57,99 +77,64 @@ fn is_whole(read: Fetched, want: &[u8]) -> bool {
     }
 }
 
-fn add_counts<R: Files + Drop>(text: &mut Text, shelf: &FileShelf<R>, name: &Bytes)
-where
-    R::File: Send,
-{
-    text.add("; ");
-    add_faults(text, shelf.tallies(name));
-}
-
-// A name is opened before there is such a file, the file is written, and it is read.
-fn written_and_read<R: Files + Drop>(
+// A name is opened, two bytes are written there, then these rows, and it is read.
+fn add_file<R: Files + Drop>(
     alloc: Global,
+    text: &mut Text,
     shelf: &mut FileShelf<R>,
-    path: &str,
-) -> Result<String, AllocError>
+    name: &[u8],
+    rows: &[u8],
+)
 where
     R::File: Send,
 {
-    let name = bytes(alloc, path)?;
-    let rows = rows(alloc)?;
-    let mut text = Text::new(alloc);
-    add_opened(&mut text, shelf, &name);
-    add_counts(&mut text, shelf, &name);
-    add_written(&mut text, shelf, &name, rows.as_slice());
+    let Ok(name) = Items::from_slice(alloc, name) else {
+        return text.add("no memory");
+    };
+    add_opened(text, shelf, &name);
+    add_written(text, shelf, &name, b"1\n");
+    add_written(text, shelf, &name, rows);
     let read = fetch(alloc, shelf, &name, 200000);
-    if is_whole(read, rows.as_slice()) {
-        text.add(" and read");
-    }
-    add_counts(&mut text, shelf, &name);
-    text.finish()
+    text.add(if is_whole(read, rows) {
+        "read"
+    } else {
+        "not read"
+    });
+    add_counts(text, shelf, &name);
 }
 
-// What is answered to a name that isn't UTF-8.
-fn no_text<R: Files + Drop>(alloc: Global, shelf: &mut FileShelf<R>) -> Result<String, AllocError>
-where
-    R::File: Send,
-{
-    let name = Items::from_slice(alloc, &[0xC3u8, 0x28])?;
-    let mut text = Text::new(alloc);
-    add_opened(&mut text, shelf, &name);
-    if let Opened::Failed = shelf.create(&name) {
-        text.add("; not created");
-    }
-    add_counts(&mut text, shelf, &name);
-    text.finish()
-}
+// A path of no file, a name that isn't UTF-8, and the system's device that takes no byte: there two bytes
+// wait in the buffer until the pour is finished, and more than it holds are written before.
+const SEEN: &str = "\
+not opened 1 0 0 0; written 1 0 0 0; written 1 0 0 0; read 1 0 0 0; \
+not opened 1 0 0 0; not written 1 1 0 0; not written 1 2 0 0; not read 2 2 0 0; \
+opened 0 0 0 0; not written 0 0 0 1; not written 0 0 0 2; not read 0 0 0 2; ";
 
-// The system's device that takes no byte: a few bytes wait in the buffer until the pour is finished,
-// and more than it holds are written before.
-fn full_device<R: Files + Drop>(
-    alloc: Global,
-    shelf: &mut FileShelf<R>,
-) -> Result<String, AllocError>
-where
-    R::File: Send,
-{
-    let name = bytes(alloc, "/dev/full")?;
-    let rows = rows(alloc)?;
-    let mut text = Text::new(alloc);
-    add_written(&mut text, shelf, &name, b"1\n");
-    add_counts(&mut text, shelf, &name);
-    add_written(&mut text, shelf, &name, rows.as_slice());
-    add_counts(&mut text, shelf, &name);
-    text.finish()
-}
-
-// What is answered otherwise than it is to be, where this is the path of no file.
-fn others<R: Files + Drop>(
+// Whether files are as they are to be, where this is the path of no file.
+fn expect_files<R: Files + Drop>(
     alloc: Global,
     shelf: &mut FileShelf<R>,
     path: &str,
-) -> Result<String, AllocError>
+) -> Result<(), Untrue>
 where
     R::File: Send,
 {
+    let rows = rows(alloc)?;
+    let rows = rows.as_slice();
+    let mut seen = Text::new(alloc);
+    add_file(alloc, &mut seen, shelf, path.as_bytes(), rows);
+    add_file(alloc, &mut seen, shelf, &[0xC3u8, 0x28], rows);
+    add_file(alloc, &mut seen, shelf, b"/dev/full", rows);
     let mut others = String::new(alloc);
-    let seen = written_and_read(alloc, shelf, path)?;
-    let wanted = "not opened; 1 0 0 0; written and read; 1 0 0 0";
-    compare(&mut others, path, seen.as_str(), wanted)?;
-    let seen = no_text(alloc, shelf)?;
-    let wanted = "not opened; not created; 1 1 0 0";
-    compare(&mut others, "no text", seen.as_str(), wanted)?;
-    let seen = full_device(alloc, shelf)?;
-    let wanted = "; not written; 0 0 0 1; not written; 0 0 0 2";
-    compare(&mut others, "a full device", seen.as_str(), wanted)?;
-    Ok(others)
+    compare(&mut others, path, seen.finish()?.as_str(), SEEN)?;
+    no_others(others)
 }
 
 #[test]
-fn files_are_written_and_read_or_fail(rt: HostRuntime) -> Result<(), Fail> {
+fn files_are_written_and_read_or_fail(rt: HostRuntime) -> Result<(), Untrue> {
     let path = "outside_tests_files_are_written_and_read.rows";
     let mut shelf = FileShelf::new(rt.clone()?, rt.alloc());
-    let others = others(rt.alloc(), &mut shelf, path)?;
-    fs::remove_file(&rt, path)?;
-    no_others(others)?;
-    Ok(())
+    let outcome = expect_files(rt.alloc(), &mut shelf, path);
+    assert!(rt; fs::remove_file(&rt, path).is_ok());
+    outcome
 }

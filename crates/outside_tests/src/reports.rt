@@ -3,10 +3,9 @@ use crate::shown::add_held;
 use language_model::CheckError as Check;
 use run_report::{Cause, Code, ExpansionError as Expansion, Refusal, status_text};
 use spl_tree::LexicalError as Lexical;
-use spl_value::Items;
+use spl_value::{Items, NoMemory};
 use std::alloc::{AllocError, Global};
-use std::test::Fail;
-use test_texts::rows::{Answers, expect};
+use test_texts::rows::{Answers, Untrue, expect};
 use test_texts::signs::with_signs;
 use test_texts::text::Text;
 use test_texts::words::{cut, number};
@@ -97,24 +96,21 @@ fn cause(alloc: Global, text: &str) -> Result<Cause, AllocError> {
     }
 }
 
-// The line that is told of a cause.
-fn told(alloc: Global, cause: &Cause) -> Result<String, AllocError> {
-    let line = status_text(alloc, None, cause).map_err(|_| AllocError)?;
-    let mut shown = Text::new(alloc);
-    add_held(&mut shown, Some(line.as_slice()));
-    with_signs(alloc, shown.finish()?.as_str())
-}
-
 impl Answers for Lines {
     fn answer(&self, alloc: Global, text: &str) -> Result<String, AllocError> {
-        told(alloc, &cause(alloc, text)?)
+        let cause = cause(alloc, text)?;
+        let mut shown = Text::new(alloc);
+        match status_text(alloc, None, &cause) {
+            Ok(line) => add_held(&mut shown, Some(line.as_slice())),
+            Err(NoMemory) => shown.add("no memory"),
+        }
+        with_signs(alloc, shown.finish()?.as_str())
     }
 }
 
 #[test]
-fn each_cause_has_its_line(rt: HostRuntime) -> Result<(), Fail> {
-    expect(rt.alloc(), &Lines, &[LINES])?;
-    Ok(())
+fn each_cause_has_its_line(rt: HostRuntime) -> Result<(), Untrue> {
+    expect(rt.alloc(), &Lines, &[LINES])
 }
 
 const LINES: &str = r#"

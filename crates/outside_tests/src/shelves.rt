@@ -11,10 +11,9 @@
 use crate::shown::{add_faults, add_held, fives, numbers};
 use feed_pour::{Fetched, Opened, Pour, Shelf, fetch, write_all};
 use memory_files::{MemoryShelf, PlainShelf};
-use spl_value::{Bytes, Name};
+use spl_value::{Bytes, Name, NoMemory};
 use std::alloc::{AllocError, Global};
-use std::test::Fail;
-use test_texts::rows::{Answers, expect};
+use test_texts::rows::{Answers, Untrue, expect};
 use test_texts::signs::{with_signs, without_signs};
 use test_texts::text::Text;
 use test_texts::words::{bytes, cut, number};
@@ -81,7 +80,7 @@ fn add_step<H: Shelf>(
     shelf: &mut H,
     name: &Name,
     step: &str,
-) -> Result<(), AllocError> {
+) -> Result<(), NoMemory> {
     let (kind, what) = cut(step);
     if kind == "fetch" {
         add_fetched(text, &fetch(alloc, shelf, name, number(what) as usize));
@@ -93,18 +92,17 @@ fn add_step<H: Shelf>(
 }
 
 // Lets calls fail.
-fn fail(alloc: Global, shelf: &mut MemoryShelf, name: &Name, what: &str) -> Result<(), AllocError> {
+fn fail(alloc: Global, shelf: &mut MemoryShelf, name: &Name, what: &str) -> Result<(), NoMemory> {
     let (kind, which) = cut(what);
     let numbers = numbers(alloc, which)?;
-    let done = match kind {
+    match kind {
         "reads" => shelf.fail_reads(name, numbers),
         "writes" => shelf.fail_writes(name, numbers),
         _ => {
             shelf.fail_calls(numbers);
             Ok(())
         }
-    };
-    done.map_err(|_| AllocError)
+    }
 }
 
 fn add_memory_step(
@@ -113,12 +111,10 @@ fn add_memory_step(
     shelf: &mut MemoryShelf,
     name: &Name,
     step: &str,
-) -> Result<(), AllocError> {
+) -> Result<(), NoMemory> {
     let (kind, what) = cut(step);
     match kind {
-        "put" => shelf
-            .put_file(name, held_of(alloc, what)?)
-            .map_err(|_| AllocError),
+        "put" => shelf.put_file(name, held_of(alloc, what)?),
         "fail" => fail(alloc, shelf, name, what),
         "holds" => {
             add_held(text, shelf.file(name));
@@ -138,12 +134,10 @@ fn add_plain_step(
     shelf: &mut PlainShelf,
     name: &Name,
     step: &str,
-) -> Result<(), AllocError> {
+) -> Result<(), NoMemory> {
     let (kind, what) = cut(step);
     match kind {
-        "put" => shelf
-            .put_file(name, held_of(alloc, what)?)
-            .map_err(|_| AllocError),
+        "put" => shelf.put_file(name, held_of(alloc, what)?),
         "holds" => {
             add_held(text, shelf.file(name));
             Ok(())
@@ -152,47 +146,38 @@ fn add_plain_step(
     }
 }
 
-fn memory_steps(
-    alloc: Global,
-    shelf: &mut MemoryShelf,
-    name: &Name,
-    steps: &str,
-) -> Result<String, AllocError> {
-    let mut text = Text::new(alloc);
-    for step in steps.split(" | ") {
-        text.add("; ");
-        add_memory_step(alloc, &mut text, shelf, name, step)?;
+// Tells where there was no memory for a step.
+fn add_done(text: &mut Text, done: Result<(), NoMemory>) {
+    if done.is_err() {
+        text.add("no memory");
     }
-    text.finish()
-}
-
-fn plain_steps(
-    alloc: Global,
-    shelf: &mut PlainShelf,
-    name: &Name,
-    steps: &str,
-) -> Result<String, AllocError> {
-    let mut text = Text::new(alloc);
-    for step in steps.split(" | ") {
-        text.add("; ");
-        add_plain_step(alloc, &mut text, shelf, name, step)?;
-    }
-    text.finish()
 }
 
 impl Answers for Memory {
     fn answer(&self, alloc: Global, text: &str) -> Result<String, AllocError> {
         let name = bytes(alloc, "rows")?;
-        let seen = memory_steps(alloc, &mut MemoryShelf::new(alloc), &name, text)?;
-        with_signs(alloc, seen.as_str())
+        let mut shelf = MemoryShelf::new(alloc);
+        let mut seen = Text::new(alloc);
+        for step in text.split(" | ") {
+            seen.add("; ");
+            let done = add_memory_step(alloc, &mut seen, &mut shelf, &name, step);
+            add_done(&mut seen, done);
+        }
+        with_signs(alloc, seen.finish()?.as_str())
     }
 }
 
 impl Answers for Plain {
     fn answer(&self, alloc: Global, text: &str) -> Result<String, AllocError> {
         let name = bytes(alloc, "rows")?;
-        let seen = plain_steps(alloc, &mut PlainShelf::new(alloc), &name, text)?;
-        with_signs(alloc, seen.as_str())
+        let mut shelf = PlainShelf::new(alloc);
+        let mut seen = Text::new(alloc);
+        for step in text.split(" | ") {
+            seen.add("; ");
+            let done = add_plain_step(alloc, &mut seen, &mut shelf, &name, step);
+            add_done(&mut seen, done);
+        }
+        with_signs(alloc, seen.finish()?.as_str())
     }
 }
 
@@ -208,8 +193,7 @@ fetch 9 | holds | put @fives 9000 | fetch 9000 | fetch 8999 | write a␊ | holds
 "#;
 
 #[test]
-fn a_shelf_in_memory_answers_as_it_is_told(rt: HostRuntime) -> Result<(), Fail> {
+fn a_shelf_in_memory_answers_as_it_is_told(rt: HostRuntime) -> Result<(), Untrue> {
     expect(rt.alloc(), &Memory, &[MEMORY])?;
-    expect(rt.alloc(), &Plain, &[PLAIN])?;
-    Ok(())
+    expect(rt.alloc(), &Plain, &[PLAIN])
 }

@@ -13,8 +13,7 @@ use spl_value::{
     Attribute, Bytes, FaultKind, IntKind, Item, Items, NoMemory, Schema, SplType, Value,
 };
 use std::alloc::{AllocError, Global};
-use std::test::Fail;
-use test_texts::rows::{Answers, expect};
+use test_texts::rows::{Answers, Untrue, expect};
 use test_texts::signs::with_signs;
 use test_texts::spelled::spelled_out;
 use test_texts::text::Text;
@@ -137,33 +136,30 @@ fn shown_items(alloc: Global, items: &[Item]) -> Result<String, AllocError> {
     with_signs(alloc, text.finish()?.as_str())
 }
 
+fn file_of(alloc: Global, file: &str) -> Result<Bytes, AllocError> {
+    bytes(alloc, spelled_out(alloc, file)?.as_str())
+}
+
 fn rows_of(
     alloc: Global,
     head: &str,
-    file: Bytes,
-) -> Result<Result<Items<Item>, NoMemory>, AllocError> {
+    file: Result<Bytes, AllocError>,
+) -> Result<Items<Item>, NoMemory> {
     let (columns, rest) = cut(head);
     let (mode, rest) = cut(rest);
     let (limit, failing) = cut(rest);
+    let mut feed = MemoryFeed::new(file?, numbers(alloc, failing)?);
     let schema = schema_of(alloc, columns)?;
-    let mut feed = MemoryFeed::new(file, numbers(alloc, failing)?);
-    Ok(read_rows(
-        alloc,
-        &mut feed,
-        &schema,
-        mode == "s",
-        7,
-        u64::from(number(limit)),
-    ))
+    let limit = u64::from(number(limit));
+    read_rows(alloc, &mut feed, &schema, mode == "s", 7, limit)
 }
 
 impl Answers for Sources {
     fn answer(&self, alloc: Global, text: &str) -> Result<String, AllocError> {
         let (head, file) = text.split_once(" | ").unwrap_or((text, ""));
-        let file = bytes(alloc, spelled_out(alloc, file)?.as_str())?;
-        match rows_of(alloc, head, file)? {
+        match rows_of(alloc, head, file_of(alloc, file)) {
             Ok(items) => shown_items(alloc, items.as_slice()),
-            Err(_) => "no memory".to_string(alloc),
+            Err(NoMemory) => Err(AllocError),
         }
     }
 }
@@ -191,31 +187,48 @@ fn copy_rows<F: Feed, P: Pour>(
     }
 }
 
-fn copy_of(alloc: Global, columns: &str, file: Bytes) -> Result<MemoryPour, NoMemory> {
-    let schema = schema_of(alloc, columns)?;
-    let mut feed = MemoryFeed::new(file, Items::new(alloc));
-    let mut pour = MemoryPour::new(alloc, Items::new(alloc));
-    let mut rows = Rows::new(alloc, &schema, true, 7, 1_000_000)?;
-    let mut writer = RowWriter::new(alloc)?;
-    copy_rows(&mut rows, &mut feed, &mut writer, &mut pour)?;
-    Ok(pour)
+// Writes all rows, and adds what is then written.
+fn add_copied(
+    text: &mut Text,
+    rows: Result<Rows, NoMemory>,
+    feed: &mut MemoryFeed,
+    writer: Result<RowWriter, NoMemory>,
+    pour: &mut MemoryPour,
+)
+    requires { IfOk rows (λ r. is_over r ≡ false) }
+{
+    let Ok(mut rows) = rows else {
+        return text.add("no memory");
+    };
+    let Ok(mut writer) = writer else {
+        return text.add("no memory");
+    };
+    match copy_rows(&mut rows, feed, &mut writer, pour) {
+        Ok(()) => text.add_bytes(pour.bytes()),
+        Err(NoMemory) => text.add("no memory"),
+    }
 }
 
-fn shown_bytes(alloc: Global, start: &str, bytes: &[u8]) -> Result<String, AllocError> {
-    let mut text = Text::new(alloc);
-    text.add(start);
-    text.add_bytes(bytes);
-    with_signs(alloc, text.finish()?.as_str())
+fn add_copy(
+    alloc: Global,
+    text: &mut Text,
+    columns: &str,
+    mut feed: MemoryFeed,
+) -> Result<(), AllocError> {
+    let schema = schema_of(alloc, columns)?;
+    let rows = Rows::new(alloc, &schema, true, 7, 1_000_000);
+    let mut pour = MemoryPour::new(alloc, Items::new(alloc));
+    add_copied(text, rows, &mut feed, RowWriter::new(alloc), &mut pour);
+    Ok(())
 }
 
 impl Answers for Copies {
     fn answer(&self, alloc: Global, text: &str) -> Result<String, AllocError> {
         let (columns, file) = text.split_once(" | ").unwrap_or((text, ""));
-        let file = bytes(alloc, spelled_out(alloc, file)?.as_str())?;
-        match copy_of(alloc, columns, file) {
-            Ok(pour) => shown_bytes(alloc, "", pour.bytes()),
-            Err(_) => "no memory".to_string(alloc),
-        }
+        let feed = MemoryFeed::new(file_of(alloc, file)?, Items::new(alloc));
+        let mut shown = Text::new(alloc);
+        add_copy(alloc, &mut shown, columns, feed)?;
+        with_signs(alloc, shown.finish()?.as_str())
     }
 }
 
@@ -228,35 +241,47 @@ fn put_word(put: Result<u64, PourAnswer>) -> &'static str {
     }
 }
 
+// Writes the rows to a pour, and adds what is then written.
+fn add_put(
+    text: &mut Text,
+    writer: Result<RowWriter, NoMemory>,
+    mut pour: MemoryPour,
+    items: Result<Items<Item>, NoMemory>,
+) {
+    let Ok(mut writer) = writer else {
+        return text.add("no memory");
+    };
+    let Ok(items) = items else {
+        return text.add("no memory");
+    };
+    text.add(put_word(writer.put_all(&mut pour, items.as_slice())));
+    text.add_bytes(pour.bytes());
+}
+
 impl Answers for Sinks {
     fn answer(&self, alloc: Global, text: &str) -> Result<String, AllocError> {
         let (failing, file) = cut(text);
-        let file = bytes(alloc, spelled_out(alloc, file)?.as_str())?;
-        let Ok(items) = rows_of(alloc, "t s 1000 0", file)? else {
-            return "no memory".to_string(alloc);
-        };
-        let mut pour = MemoryPour::new(alloc, numbers(alloc, failing)?);
-        let Ok(mut writer) = RowWriter::new(alloc) else {
-            return "no memory".to_string(alloc);
-        };
-        let put = writer.put_all(&mut pour, items.as_slice());
-        shown_bytes(alloc, put_word(put), pour.bytes())
+        let pour = MemoryPour::new(alloc, numbers(alloc, failing)?);
+        let items = rows_of(alloc, "t s 1000 0", file_of(alloc, file));
+        let mut shown = Text::new(alloc);
+        add_put(&mut shown, RowWriter::new(alloc), pour, items);
+        with_signs(alloc, shown.finish()?.as_str())
     }
 }
 
 #[test]
-fn sources_have_these_rows(rt: HostRuntime) -> Result<(), Fail> {
-    let alloc = rt.alloc();
-    expect(alloc, &Sources, &[LINES, QUOTES, BOUNDS, LIMITS, READS])?;
-    Ok(())
+fn sources_have_these_rows(rt: HostRuntime) -> Result<(), Untrue> {
+    expect(
+        rt.alloc(),
+        &Sources,
+        &[LINES, QUOTES, BOUNDS, LIMITS, READS],
+    )
 }
 
 #[test]
-fn rows_are_written_as_they_are_read(rt: HostRuntime) -> Result<(), Fail> {
-    let alloc = rt.alloc();
-    expect(alloc, &Copies, &[COPIES])?;
-    expect(alloc, &Sinks, &[WRITES])?;
-    Ok(())
+fn rows_are_written_as_they_are_read(rt: HostRuntime) -> Result<(), Untrue> {
+    expect(rt.alloc(), &Copies, &[COPIES])?;
+    expect(rt.alloc(), &Sinks, &[WRITES])
 }
 
 const LINES: &str = r#"
