@@ -20,9 +20,8 @@ use crate::sources::SOURCES;
 use crate::words::{BUILT, WORDS, unopened};
 use std::alloc::{AllocError, Global};
 use std::sync::Wait;
-use std::test::Fail;
 use std::thread::Threads;
-use test_texts::rows::{compare, no_others, row_of};
+use test_texts::rows::{Untrue, compare, no_others, row_of};
 
 // What is asked of a row.
 #[derive(Clone, Copy)]
@@ -101,28 +100,27 @@ fn add_others<W: Threads + Wait + Sync>(
     Ok(())
 }
 
-// Those rows of tables that have other answers.
-fn others_of<W: Threads + Wait + Sync>(
+// Whether each row of these tables has its answer.
+fn expect_rows<W: Threads + Wait + Sync>(
     rt: &W,
     alloc: Global,
     tables: &[(Question, &str)],
-) -> Result<String, AllocError> {
+) -> Result<(), Untrue> {
     let mut others = String::new(alloc);
     for (question, table) in tables {
         add_others(rt, alloc, &mut others, *question, table)?;
     }
-    Ok(others)
+    no_others(others)
 }
 
 #[test]
-fn the_program_answers_as_the_rows_say(rt: HostRuntime) -> Result<(), Fail> {
-    no_others(others_of(&rt, rt.alloc(), &TABLES)?)?;
-    Ok(())
+fn the_program_answers_as_the_rows_say(rt: HostRuntime) -> Result<(), Untrue> {
+    expect_rows(&rt, rt.alloc(), &TABLES)
 }
 
 #[test]
-fn a_replay_follows_its_record(rt: HostRuntime) -> Result<(), Fail> {
-    no_others(others_of(
+fn a_replay_follows_its_record(rt: HostRuntime) -> Result<(), Untrue> {
+    expect_rows(
         &rt,
         rt.alloc(),
         &[
@@ -130,19 +128,17 @@ fn a_replay_follows_its_record(rt: HostRuntime) -> Result<(), Fail> {
             (REPLAY, REPLAYS),
             (REPLAY, LONG_RECORDS),
         ],
-    )?)?;
-    Ok(())
+    )
 }
 
 #[test]
-fn a_run_writes_its_record(rt: HostRuntime) -> Result<(), Fail> {
-    no_others(others_of(&rt, rt.alloc(), &[(RECORD, WRITTEN)])?)?;
-    Ok(())
+fn a_run_writes_its_record(rt: HostRuntime) -> Result<(), Untrue> {
+    expect_rows(&rt, rt.alloc(), &[(RECORD, WRITTEN)])
 }
 
 #[test]
-fn a_replay_gives_what_the_run_gave_that_wrote_its_record(rt: HostRuntime) -> Result<(), Fail> {
-    no_others(others_of(
+fn a_replay_gives_what_the_run_gave_that_wrote_its_record(rt: HostRuntime) -> Result<(), Untrue> {
+    expect_rows(
         &rt,
         rt.alloc(),
         &[
@@ -152,13 +148,12 @@ fn a_replay_gives_what_the_run_gave_that_wrote_its_record(rt: HostRuntime) -> Re
             (Question::Recorded, CLAUSES),
             (Question::Recorded, EXAMPLES),
         ],
-    )?)?;
-    Ok(())
+    )
 }
 
 #[test]
-fn a_replay_is_refused_in_order(rt: HostRuntime) -> Result<(), Fail> {
-    no_others(others_of(
+fn a_replay_is_refused_in_order(rt: HostRuntime) -> Result<(), Untrue> {
+    expect_rows(
         &rt,
         rt.alloc(),
         &[
@@ -166,40 +161,34 @@ fn a_replay_is_refused_in_order(rt: HostRuntime) -> Result<(), Fail> {
             (REPLAY, NOT_WHOLE),
             (REPLAY, STOPPED_REPLAYS),
         ],
-    )?)?;
-    Ok(())
+    )
 }
 
 #[test]
-fn an_event_has_a_million_turns(rt: HostRuntime) -> Result<(), Fail> {
-    no_others(others_of(&rt, rt.alloc(), &[(RUN, TURNS)])?)?;
-    Ok(())
+fn an_event_has_a_million_turns(rt: HostRuntime) -> Result<(), Untrue> {
+    expect_rows(&rt, rt.alloc(), &[(RUN, TURNS)])
 }
 
 #[test]
-fn operators_and_their_clauses_answer_as_the_rows_say(rt: HostRuntime) -> Result<(), Fail> {
-    no_others(others_of(
+fn operators_and_their_clauses_answer_as_the_rows_say(rt: HostRuntime) -> Result<(), Untrue> {
+    expect_rows(
         &rt,
         rt.alloc(),
         &[(RUN, SINGLE), (RUN, CUSTOMS), (RUN, CLAUSES)],
-    )?)?;
-    Ok(())
+    )
 }
 
 #[test]
-fn the_turns_of_an_event_are_spent_by_all_that_it_evaluates(rt: HostRuntime) -> Result<(), Fail> {
-    no_others(others_of(&rt, rt.alloc(), &[(RUN, LOOPS)])?)?;
-    Ok(())
+fn the_turns_of_an_event_are_spent_by_all_that_it_evaluates(rt: HostRuntime) -> Result<(), Untrue> {
+    expect_rows(&rt, rt.alloc(), &[(RUN, LOOPS)])
 }
 
 #[test]
-fn a_clause_that_takes_all_turns_ends_the_run(rt: HostRuntime) -> Result<(), Fail> {
-    no_others(others_of(&rt, rt.alloc(), &[(RUN, SPENT)])?)?;
-    Ok(())
+fn a_clause_that_takes_all_turns_ends_the_run(rt: HostRuntime) -> Result<(), Untrue> {
+    expect_rows(&rt, rt.alloc(), &[(RUN, SPENT)])
 }
 
 #[test]
-fn a_hostile_program_is_answered(rt: HostRuntime) -> Result<(), Fail> {
-    no_others(others_of(&rt, rt.alloc(), &[(CHECK, HOSTILE)])?)?;
-    Ok(())
+fn a_hostile_program_is_answered(rt: HostRuntime) -> Result<(), Untrue> {
+    expect_rows(&rt, rt.alloc(), &[(CHECK, HOSTILE)])
 }
