@@ -6,7 +6,6 @@ use Rattle.spl_value.specs.declared.item.Fault.{Fault}
 use Rattle.feed_pour.specs.Counts.{PerName}
 use Rattle.feed_pour.specs.Contents.{Told, WhereTold}
 use Rattle.language_model.specs.declared.checked.CheckedClauses.{CheckedClauses}
-use Rattle.language_model.specs.declared.checked.CheckedClauses.TheVariants as A
 use Rattle.language_model.specs.CheckedGraph.{CheckedGraph}
 use Rattle.arrival_format.specs.ArrivalTexts.{arrivals_text}
 use Rattle.stream_model.specs.Ends.{run_fault}
@@ -19,23 +18,25 @@ use Rattle.command_line.specs.declared.request.Request.{Request}
 use Rattle.spl_driver.specs.Outcome.{RequestOutcome, NoRequest, Unreadable, Refused, NotBuilt, Reports, BadArrivals, Runs, IsFound, IsOutcome, ArePartsIn, of_program, of_unreadable}
 use Rattle.std.specs.Prelude.{◌||◌}
 use Rattle.std.specs.Str.{bytes_eq}
-use Rattle.check_laws.specs.Files.{is_named}
+use Rattle.check_laws.specs.Files.{is_named, sink_file}
 use Rattle.command_line.specs.declared.request.Request.TheVariants as R
 use Rattle.spl_driver.specs.Built.{is_built}
 use Rattle.spl_driver.specs.Files.{FilesOf, files_of, opens, whole_files}
-use Rattle.spl_driver.specs.Answer.{AtSink, EachSink, HoldsText, HoldsPrefix, sink_text, CarriedOut, RunsTo, ReportsTo, Begun, CauseMeans, CreatingFailed, DeviceFailed, opening, reading, creating, writing, DevicesMean, ReadingFailed, WritingFailed, WroteOthers, StoppedBy, WholeReads, Answered, IsOr, IsRun, IsUnread, NeedsRecord, FollowsRecord, RecordHolds, WritesRecord, of_record, of_sink, of_telling, is_ended_run, is_refused, IsAnswer, IsComplete, Untouched, ByWords, MayBe, cause_of}
+use Rattle.spl_driver.specs.Answer.{EachSink, HoldsText, HoldsPrefix, sink_text, CarriedOut, RunsTo, ReportsTo, Begun, CauseMeans, CreatingFailed, DeviceFailed, opening, reading, creating, writing, DevicesMean, ReadingFailed, WritingFailed, WroteOthers, StoppedBy, WholeReads, Answered, IsOr, IsRun, IsUnread, NeedsRecord, FollowsRecord, RecordHolds, WritesRecord, of_record, of_sink, of_telling, IsAnswer, IsComplete, ByWords, MayBe, NoCountChanged, cause_of}
 use Rattle.source_rows.specs.Counting.{OnlyReads, OpeningFailed}
 use Rattle.spl_driver.specs.Texts.{ToldAs}
 use Rattle.spl_driver.specs.RequestLaws.{OneOutcomeLaw}
 use Rattle.spl_driver.specs.declared.ended.Ended.{Ended}
 use Rattle.command_line.specs.declared.request.RunOptions.{RunOptions}
 use Rattle.command_line.specs.Request.{file_names}
-use Rattle.spl_driver.proofs.ReplayLaw.{run_at, run_ended_by}
+use Rattle.spl_driver.proofs.ReplayLaw.{run_at}
 use Rattle.spl_driver.proofs.Requests.{IsUnreadable, unread_by}
 use Rattle.spl_driver.proofs.Showing.{with_cause}
+use Rattle.spl_driver.proofs.Standing.{ended_is, ended_run}
 use Rattle.spl_driver.proofs.Running.{begun_same}
 use Rattle.spl_value.proofs.Bools.{or_true}
 use Rattle.spl_value.proofs.Lists.{same_name}
+use Rattle.spl_driver.specs.Steps.{is_ended_run}
 
 -- ---- what an answer means
 
@@ -63,21 +64,13 @@ IsOne Is = (r s : RequestOutcome) → Is r → Is s → r ≡ s
 
 -- ---- weaker facts
 
-front_at : (m : Meaning) (old new : Told) (clauses : CheckedClauses) (op : Operator) → AtSink (HoldsText m new) clauses op → AtSink (HoldsPrefix m old new) clauses op
-front_at m old new (A.FileSource file strict) op h = tt
-front_at m old new (A.FileSink file) op h = inr (length (sink_text m op), h ∙ ap (λ (x : List ℕ). Some x) (sym (take-length (sink_text m op))))
-front_at m old new (A.Filter condition) op h = tt
-front_at m old new (A.Functor condition output) op h = tt
-front_at m old new (A.Punctor condition position) op h = tt
-front_at m old new (A.Split index) op h = tt
-front_at m old new (A.Union places) op h = tt
-front_at m old new (A.Custom handlers) op h = tt
-front_at m old new (A.Aggregate window partition group output) op h = tt
-front_at m old new (A.Join left right condition output) op h = tt
+front_at : (m : Meaning) (old new : Told) (o : Option (List ℕ)) (op : Operator) → IfSome o (HoldsText m new op) → IfSome o (HoldsPrefix m old new op)
+front_at m old new None op h = tt
+front_at m old new (Some file) op h = inr (length (sink_text m op), h ∙ ap (λ (x : List ℕ). Some x) (sym (take-length (sink_text m op))))
 
 fronts : (m : Meaning) (old new : Told) (ops : List Operator) → EachSink (HoldsText m new) ops → EachSink (HoldsPrefix m old new) ops
 fronts m old new [] h = tt
-fronts m old new (op ∷ ops) h = (front_at m old new op.clauses op h.0, fronts m old new ops h.1)
+fronts m old new (op ∷ ops) h = (front_at m old new (sink_file op.clauses) op h.0, fronts m old new ops h.1)
 
 weaker_run : (fault : Option Fault) (Is : RequestOutcome → Type 0) (ended : Ended) (result : RequestOutcome) (t u : Told) → IsOne Is → RunsTo fault Is ended u → Is result → Begun result t u
 weaker_run fault Is ended result t u one (c, g, m, is, e, run) comes =
@@ -112,7 +105,7 @@ untold_run None Is ended r status t u (inr h) = inr (None, runs_same None Is end
 untold_run (Some fault) Is ended r status t u h = inr (Some fault, runs_same (Some fault) Is ended r status u h)
 
 others_same : (Is : RequestOutcome → Type 0) (counts now : PerName) (ended : Ended) (r : Cause) (status : ℕ) (u : Told) → WroteOthers Is counts now ended u → WroteOthers Is counts now (with_cause ended r status) u
-others_same Is counts now ended r status u h = record { checked = h.checked; graph = h.graph; meaning = h.meaning; comes = h.comes; texts = h.texts; recorded = h.recorded }
+others_same Is counts now ended r status u h = h
 
 -- what is known of devices before the text is told
 devices_same : (k : Cause) (files : FilesOf) (counts later : PerName) (Text : Type 0) (Is : RequestOutcome → Type 0) (ended : Ended) (r : Cause) (status : ℕ) (t u : Told)
@@ -126,7 +119,7 @@ devices_same (C.OpenFailed name) files counts later Text Is ended r status t u h
 devices_same (C.ReadFailed name) files counts later Text Is ended r status t u h = h
 devices_same (C.BadArrivals op) files counts later Text Is ended r status t u h = h
 devices_same (C.WriteFailed name) files counts later Text Is ended r status t u (inl h) = inl (h.0, others_same Is counts later ended r status u h.1)
-devices_same (C.WriteFailed name) files counts later Text Is ended r status t u (inr h) = absurd h.failed
+devices_same (C.WriteFailed name) files counts later Text Is ended r status t u (inr h) = absurd h.0.1
 devices_same C.NoMemory files counts later Text Is ended r status t u h = h
 
 devices_run : (fault : Option Fault) (files : FilesOf) (counts later : PerName) (Is : RequestOutcome → Type 0) (ended : Ended) (t u : Told) → DevicesMean (cause_of fault) files counts later ⊥ Is ended t u
@@ -141,12 +134,11 @@ devices_said files counts later Text Is ended r status t u (inl e) means h =
 devices_said files counts later Text Is ended r status t u (inr (inl e)) means h =
     subst (λ (k : Cause). DevicesMean k files counts later Text Is (with_cause ended r status) t u) (sym e) tt
 devices_said files counts later Text Is ended r status t u (inr (inr (e, (fault, run), text))) means h =
-    subst (λ (k : Cause). DevicesMean k files counts later Text Is (with_cause ended r status) t u) (sym e) (inr (record {
-      named = refl;
-      failed = text;
-      counted = devices_run fault files counts later Is ended t u (subst (λ (c : Cause). DevicesMean c files counts later ⊥ Is ended t u) run h);
-      ran = untold_run fault Is ended r status t u (subst (λ (c : Cause). CauseMeans c Is ended t u) run means);
-    }))
+    subst (λ (k : Cause). DevicesMean k files counts later Text Is (with_cause ended r status) t u) (sym e)
+    (inr (
+      (refl, text, devices_run fault files counts later Is ended t u (subst (λ (c : Cause). DevicesMean c files counts later ⊥ Is ended t u) run h)),
+      untold_run fault Is ended r status t u (subst (λ (c : Cause). CauseMeans c Is ended t u) run means),
+    ))
 
 -- what is known of the program's reading
 whole_run : (fault : Option Fault) (n : List ℕ) → (cause_of fault ≡ C.ReadFailed n) ⊎ (cause_of fault ≡ C.NoMemory) → ⊥
@@ -162,9 +154,9 @@ stopped_said c r parts counts later Text (inr (inr (e, run, text))) h = subst (�
 
 whole_said : (c r : Cause) (files : FilesOf) (counts later : PerName) (t : Told) (Text : Type 0) → ToldAs c r Text → WholeReads c files counts later t → WholeReads r files counts later t
 whole_said c r files counts later t Text (inl e) h = subst (λ (k : Cause). WholeReads k files counts later t) (sym e) h
-whole_said c r files counts later t Text (inr (inl e)) h = λ n named differs. record { fails = (h n named differs).fails; answer = inr e }
+whole_said c r files counts later t Text (inr (inl e)) h = λ n named differs. ((h n named differs).0, inr e)
 whole_said c r files counts later t Text (inr (inr (e, (fault, run), text))) h =
-    λ n named differs. absurd (whole_run fault n (subst (λ (k : Cause). (k ≡ C.ReadFailed n) ⊎ (k ≡ C.NoMemory)) run (h n named differs).answer))
+    λ n named differs. absurd (whole_run fault n (subst (λ (k : Cause). (k ≡ C.ReadFailed n) ⊎ (k ≡ C.NoMemory)) run (h n named differs).1))
 
 -- ---- where no device failed
 
@@ -179,13 +171,13 @@ failed_opening : (files : FilesOf) (name : List ℕ) (counts later : PerName) �
 failed_opening files name counts later h = opening name (split_named h.before h.behind name files.opened h.order) h.rose
 
 failed_creating : (files : FilesOf) (name : List ℕ) (counts later : PerName) → CreatingFailed files name counts later → DeviceFailed files counts later
-failed_creating files name counts later h = creating name (split_named h.before h.behind name files.created h.order) h.rose
+failed_creating files name counts later h = creating name (split_named h.before h.order.0 name files.created h.order.1) h.rose
 
 failed_reading : (files : FilesOf) (name : List ℕ) (counts later : PerName) → ReadingFailed files name counts later → DeviceFailed files counts later
 failed_reading files name counts later h = reading name h.whole h.rose
 
 failed_writing : (files : FilesOf) (name : List ℕ) (counts later : PerName) → WritingFailed files name counts later → DeviceFailed files counts later
-failed_writing files name counts later h = writing name (split_named h.before h.behind name files.created h.order) h.rose
+failed_writing files name counts later h = writing name (split_named h.before h.order.0 name files.created h.order.1) h.rose
 
 -- a cause that names a file, before the text is told
 abbrev NamesFile : Cause → Type 0
@@ -200,7 +192,7 @@ device_failed (C.OpenFailed name) files counts later Is ended t u is (inl h) = f
 device_failed (C.OpenFailed name) files counts later Is ended t u is (inr h) = failed_creating files name counts later h.failed
 device_failed (C.ReadFailed name) files counts later Is ended t u is h = failed_reading files name counts later h
 device_failed (C.WriteFailed name) files counts later Is ended t u is (inl h) = failed_writing files name counts later h.0
-device_failed (C.WriteFailed name) files counts later Is ended t u is (inr h) = absurd h.failed
+device_failed (C.WriteFailed name) files counts later Is ended t u is (inr h) = absurd h.0.1
 device_failed C.Done files counts later Is ended t u is h = absurd is
 device_failed (C.Stopped fault) files counts later Is ended t u is h = absurd is
 device_failed C.NotBuilt files counts later Is ended t u is h = absurd is
@@ -210,9 +202,13 @@ device_failed (C.BadArrivals op) files counts later Is ended t u is h = absurd i
 device_failed C.NoMemory files counts later Is ended t u is h = absurd is
 
 -- what a record is needed for, and that it is followed
-run_unrefused : (c : Cause) → IsRun c → is_refused c ≡ true → ⊥
-run_unrefused c (None, is) e = let h : false ≡ true = sym (ap is_refused is) ∙ e in cc
-run_unrefused c (Some fault, is) e = let h : false ≡ true = sym (ap is_refused is) ∙ e in cc
+run_unrefused : (c : Cause) (refusal : Refusal) → IsRun c → c ≡ C.Refused refusal → ⊥
+run_unrefused c refusal (None, is) e = let h : C.Refused refusal ≡ C.Done = sym e ∙ is in cc
+run_unrefused c refusal (Some fault, is) e = let h : C.Refused refusal ≡ C.Stopped fault = sym e ∙ is in cc
+
+-- refused, or not read
+abbrev NoRecord : List (List ℕ) → Cause → Type 0
+NoRecord whole c = ((refusal : Refusal) × (c ≡ C.Refused refusal)) ⊎ IsUnread whole c
 
 unread_not_run : (whole : List (List ℕ)) (c : Cause) → IsUnread whole c → IsRun c → ⊥
 unread_not_run whole c (inl e) (None, is) = let h : C.NoMemory ≡ C.Done = sym e ∙ is in cc
@@ -222,10 +218,10 @@ unread_not_run whole c (inr (name, named, inl e)) (Some fault, is) = let h : C.O
 unread_not_run whole c (inr (name, named, inr e)) (None, is) = let h : C.ReadFailed name ≡ C.Done = sym e ∙ is in cc
 unread_not_run whole c (inr (name, named, inr e)) (Some fault, is) = let h : C.ReadFailed name ≡ C.Stopped fault = sym e ∙ is in cc
 
-needs_said : (whole : List (List ℕ)) (c r : Cause) (Text : Type 0) → ToldAs c r Text → (is_refused c ≡ true) ⊎ IsUnread whole c → (is_refused r ≡ true) ⊎ IsUnread whole r
-needs_said whole c r Text (inl e) h = subst (λ (k : Cause). (is_refused k ≡ true) ⊎ IsUnread whole k) (sym e) h
+needs_said : (whole : List (List ℕ)) (c r : Cause) (Text : Type 0) → ToldAs c r Text → NoRecord whole c → NoRecord whole r
+needs_said whole c r Text (inl e) h = subst (NoRecord whole) (sym e) h
 needs_said whole c r Text (inr (inl e)) h = inr (inl e)
-needs_said whole c r Text (inr (inr (e, run, text))) (inl refused) = absurd (run_unrefused c run refused)
+needs_said whole c r Text (inr (inr (e, run, text))) (inl (refusal, refused)) = absurd (run_unrefused c refusal run refused)
 needs_said whole c r Text (inr (inr (e, run, text))) (inr h) = absurd (unread_not_run whole c h run)
 
 needed_said : (request : Option Request) (ended : Ended) (r : Cause) (status : ℕ) (t : Told) (Text : Type 0) → ToldAs ended.cause r Text → NeedsRecord request ended t → NeedsRecord request (with_cause ended r status) t
@@ -237,10 +233,14 @@ needed_said (Some (R.Replay p file)) ended r status t Text e h = λ fault. needs
 needed_said (Some (R.Simulate p width schedule steps)) ended r status t Text e h = tt
 needed_said (Some (R.Make name rows start)) ended r status t Text e h = tt
 
-ended_before : (c r : Cause) (Text : Type 0) → ToldAs c r Text → is_ended_run r ≡ true → is_ended_run c ≡ true
-ended_before c r Text (inl e) h = ap is_ended_run (sym e) ∙ h
-ended_before c r Text (inr (inl e)) h = absurd (let bad : false ≡ true = sym (ap is_ended_run e) ∙ h in cc)
-ended_before c r Text (inr (inr (e, run, text))) h = run_ended_by c run
+-- the request was carried out, or what it gave couldn't be written
+abbrev EndedRun : Cause → Type 0
+EndedRun c = IsRun c ⊎ ((name : List ℕ) × (c ≡ C.WriteFailed name))
+
+ended_before : (c r : Cause) (Text : Type 0) → ToldAs c r Text → EndedRun r → EndedRun c
+ended_before c r Text (inl e) h = ended_is c (ap is_ended_run (sym e) ∙ ended_run r h)
+ended_before c r Text (inr (inl e)) h = absurd (let bad : false ≡ true = sym (ap is_ended_run e) ∙ ended_run r h in cc)
+ended_before c r Text (inr (inr (e, run, text))) h = inl run
 
 followed_said : (request : Option Request) (Is : RequestOutcome → Type 0) (ended : Ended) (r : Cause) (status : ℕ) (t : Told) (Text : Type 0) → ToldAs ended.cause r Text → FollowsRecord request Is ended t
     → FollowsRecord request Is (with_cause ended r status) t
@@ -346,13 +346,13 @@ or_not_run expected c other (inr e) (None, is) = let h : C.NoMemory ≡ C.Done =
 or_not_run expected c other (inr e) (Some fault, is) = let h : C.NoMemory ≡ C.Stopped fault = sym e ∙ is in cc
 
 untouched_said : (expected c r : Cause) (counts later : PerName) (Text : Type 0) → ((fault : Option Fault) → expected ≡ cause_of fault → ⊥) → ToldAs c r Text
-    → Untouched expected c counts later → Untouched expected r counts later
-untouched_said expected c r counts later Text other told h = record { answer = by told; counts = h.counts }
+    → IsOr expected c × NoCountChanged counts later → IsOr expected r × NoCountChanged counts later
+untouched_said expected c r counts later Text other told h = (by told, h.1)
   where
     by : ToldAs c r Text → IsOr expected r
-    by (inl e) = subst (IsOr expected) (sym e) h.answer
+    by (inl e) = subst (IsOr expected) (sym e) h.0
     by (inr (inl e)) = inr e
-    by (inr (inr (e, run, text))) = absurd (or_not_run expected c other h.answer run)
+    by (inr (inr (e, run, text))) = absurd (or_not_run expected c other h.0 run)
 
 words_not_run : (fault : Option Fault) → C.BadWords ≡ cause_of fault → ⊥
 words_not_run None e = cc
@@ -477,8 +477,8 @@ unread_cause (C.OpenFailed name) request counts later Is ended t u built unrun i
     inr (name, split_named h.0.before h.0.behind name (whole_files (Some request)) (sym (whole_alone request built) ∙ h.0.order), inl refl)
 unread_cause (C.OpenFailed name) request counts later Is ended t u built unrun is (inr h) = absurd (not_run_of Is unrun h.runs)
 unread_cause (C.ReadFailed name) request counts later Is ended t u built unrun is h = inr (name, h.whole, inr refl)
-unread_cause (C.WriteFailed name) request counts later Is ended t u built unrun is (inl h) = absurd (unrun h.1.checked h.1.graph h.1.meaning h.1.comes)
-unread_cause (C.WriteFailed name) request counts later Is ended t u built unrun is (inr h) = absurd h.failed
+unread_cause (C.WriteFailed name) request counts later Is ended t u built unrun is (inl h) = absurd (unrun h.1.0 h.1.1 h.1.2 h.1.3)
+unread_cause (C.WriteFailed name) request counts later Is ended t u built unrun is (inr h) = absurd h.0.1
 unread_cause C.Done request counts later Is ended t u built unrun is h = absurd is
 unread_cause (C.Stopped fault) request counts later Is ended t u built unrun is h = absurd is
 unread_cause C.NotBuilt request counts later Is ended t u built unrun is h = absurd is
@@ -487,17 +487,17 @@ unread_cause (C.Refused refusal) request counts later Is ended t u built unrun i
 unread_cause (C.BadArrivals op) request counts later Is ended t u built unrun is h = absurd is
 unread_cause C.NoMemory request counts later Is ended t u built unrun is h = absurd is
 
-not_refused : (k : Cause) → NamesFile k → is_refused k ≡ true → ⊥
-not_refused (C.OpenFailed name) named e = cc
-not_refused (C.ReadFailed name) named e = cc
-not_refused (C.WriteFailed name) named e = cc
-not_refused C.Done named e = named
-not_refused (C.Stopped fault) named e = named
-not_refused C.NotBuilt named e = named
-not_refused C.BadWords named e = named
-not_refused (C.Refused refusal) named e = named
-not_refused (C.BadArrivals op) named e = named
-not_refused C.NoMemory named e = named
+not_refused : (k : Cause) → NamesFile k → (r : Refusal) → k ≡ C.Refused r → ⊥
+not_refused (C.OpenFailed name) named r e = cc
+not_refused (C.ReadFailed name) named r e = cc
+not_refused (C.WriteFailed name) named r e = cc
+not_refused C.Done named r e = named
+not_refused (C.Stopped fault) named r e = named
+not_refused C.NotBuilt named r e = named
+not_refused C.BadWords named r e = named
+not_refused (C.Refused refusal) named r e = named
+not_refused (C.BadArrivals op) named r e = named
+not_refused C.NoMemory named r e = named
 
 -- an answer that names no file is none to it
 unread_told : (k : Cause) (request : Option Request) (file : List ℕ) (counts later : PerName) (ended : Ended) (t u : Told) → ended.cause ≡ k → NamesFile k → IsUnrunOf (IsOutcome t ended.arrivals request) → IsUnreadable t request file
@@ -512,8 +512,8 @@ unread_told k request file counts later ended t u e named unrun (inr bad) device
     subst (λ (o : Option Request). IsUnread (whole_files o) k) (sym bad.is)
     (by ((subst (λ (o : Option Request). NeedsRecord o ended t) bad.is needed) bad.fault))
   where
-    by : (is_refused ended.cause ≡ true) ⊎ IsUnread (bad.program ∷ file ∷ []) ended.cause → IsUnread (bad.program ∷ file ∷ []) k
-    by (inl refused) = absurd (not_refused k named (ap is_refused (sym e) ∙ refused))
+    by : NoRecord (bad.program ∷ file ∷ []) ended.cause → IsUnread (bad.program ∷ file ∷ []) k
+    by (inl (refusal, refused)) = absurd (not_refused k named refusal (sym e ∙ refused))
     by (inr h) = subst (IsUnread (bad.program ∷ file ∷ [])) e h
 
 run_unread : (c : CheckedGraph) (g : Graph) (m : Meaning) (file : List ℕ) → Runs c g m ≡ Unreadable file → ⊥

@@ -18,14 +18,15 @@ use Rattle.command_line.specs.declared.request.Request.{Request}
 use Rattle.command_line.specs.declared.request.Request.TheVariants as R
 use Rattle.command_line.specs.declared.request.RunOptions.{RunOptions}
 use Rattle.std.specs.List.{cons_option}
+use Rattle.std.specs.Option.{option_to_list}
 use Rattle.command_line.specs.Request.{file_names}
 use Rattle.check_laws.specs.Files.{source_files, sink_files, is_named}
 use Rattle.source_rows.specs.Counting.{OpeningFailed}
-use Rattle.spl_driver.specs.Files.{FilesOf, creates, files_of, if_given, row_files}
+use Rattle.spl_driver.specs.Files.{FilesOf, creates, files_of, row_files}
 use Rattle.spl_driver.specs.Outcome.{IsReplay, has_record_fault, OfPlan, OfSize, Report, RequestOutcome, Reports}
-use Rattle.spl_driver.specs.Answer.{CauseMeans, CreatingFailed, DevicesMean, DevicesShow, ReadingFailed, StoppedBy, WholeReads, WritingFailed, IsUnread, MayBe, NeedsRecord, is_bad_arrivals, is_ended_run, is_replay, is_report, uncounted}
+use Rattle.spl_driver.specs.Answer.{CauseMeans, CreatingFailed, DevicesMean, DevicesShow, ReadingFailed, StoppedBy, WholeReads, WritingFailed, IsUnread, MayBe, NeedsRecord, is_report, uncounted}
 use Rattle.spl_driver.specs.Texts.{IsReportText, IsText, wants_counts}
-use Rattle.spl_driver.specs.Steps.{CountsShow, FilesShow, FollowsFile, IsAcceptedOutcome, IsNamedBy, IsRunOf, IsToldAcceptedOutcome, MayBeOutcome, ReplayComes, RecordFor, RecordOf, RunComes, created_by, replay_files, run_files}
+use Rattle.spl_driver.specs.Steps.{CountsShow, FilesShow, FollowsFile, IsAcceptedOutcome, IsNamedBy, IsRunOf, IsToldAcceptedOutcome, MayBeOutcome, ReplayComes, RecordFor, RecordOf, RunComes, created_by, replay_files, run_files, is_bad_arrivals, is_ended_run, is_replay}
 use Rattle.spl_driver.specs.declared.ended.Ended.{Ended}
 use Rattle.arrival_format.specs.ArrivalTexts.{Spells}
 use Rattle.list_engine.specs.declared.run_order.Order.TheVariants as O
@@ -85,7 +86,7 @@ pub reported_text : (told : Option Told) (request : Request) (report : Report) (
 reported_text told request report c ended (Err x) counts now asks is h = tt
 reported_text told request report c ended (Ok text) counts now asks is h =
     subst (λ (k : Cause). IsText (wants_counts (Some request)) k (IsToldAcceptedOutcome request c ended.arrivals told counts now) text) (sym is)
-    (Reports report c, reported_comes told request report c ended.arrivals counts now asks, refl, h)
+    (Reports report c, reported_comes told request report c ended.arrivals counts now asks, (refl, h))
 
 -- the text of the plan that was chosen
 pub plan_told : (c : CheckedGraph) (plan : List Region) (text : Result (List ℕ) NoMemory) → ((g : Graph) → graph_of c ≡ g → IsPlan g plan) → IfOk text (λ t. t ≡ plan_text c plan) → IfOk text (IsReportText OfPlan c)
@@ -118,7 +119,6 @@ module _ (p : List ℕ) (whole : List (List ℕ)) (most : List ℕ → ℕ) (fil
   creating_wider : (name : List ℕ) (old new : PerName) → CreatingFailed files name old new → CreatingFailed (with_file p whole most files) name old new
   creating_wider name old new h = record {
     before = h.before;
-    behind = h.behind;
     order = h.order;
     rose = h.rose;
     later = λ n free other. h.later n (front_not p n (files.opened ++ h.before) free) other;
@@ -129,7 +129,7 @@ module _ (p : List ℕ) (whole : List (List ℕ)) (most : List ℕ → ℕ) (fil
 
   writing_wider : (name : List ℕ) (old new : PerName) → WritingFailed files name old new → WritingFailed (with_file p whole most files) name old new
   writing_wider name old new h =
-      record { before = h.before; behind = h.behind; order = h.order; rose = h.rose; first = h.first; others = h.others; creating = h.creating; opening = h.opening }
+      record { before = h.before; order = h.order; rose = h.rose; first = h.first; others = h.others; made = h.made }
 
   reading_wider : (name : List ℕ) (old new : PerName) → ReadingFailed files name old new → ReadingFailed (with_file p whole most files) name old new
   reading_wider name old new h = record { whole = named name h.whole; rose = h.rose; only = h.only; others = h.others }
@@ -157,15 +157,15 @@ module _ (p : List ℕ) (whole : List (List ℕ)) (most : List ℕ → ℕ) (fil
   means_wider (C.Refused refusal) counts now Is ended t u h = h
   means_wider (C.BadArrivals op) counts now Is ended t u h = h
   means_wider (C.OpenFailed name) counts now Is ended t u (inl h) = inl (opening_wider name counts now h.0, h.1)
-  means_wider (C.OpenFailed name) counts now Is ended t u (inr h) = inr (record { failed = creating_wider name counts now h.failed; emptied = h.emptied; runs = h.runs })
+  means_wider (C.OpenFailed name) counts now Is ended t u (inr h) = inr (record { failed = creating_wider name counts now h.failed; empty = h.empty; others = h.others; runs = h.runs })
   means_wider (C.ReadFailed name) counts now Is ended t u h = reading_wider name counts now h
   means_wider (C.WriteFailed name) counts now Is ended t u (inl h) = inl (writing_wider name counts now h.0, h.1)
-  means_wider (C.WriteFailed name) counts now Is ended t u (inr h) = absurd h.failed
+  means_wider (C.WriteFailed name) counts now Is ended t u (inr h) = absurd h.0.1
   means_wider C.NoMemory counts now Is ended t u h = tt
 
   whole_wider : (cause : Cause) (counts now : PerName) (t : Told) → WholeReads cause files counts now t → WholeReads cause (with_file p whole most files) counts now t
   whole_wider cause counts now t h = λ n free differs.
-      record { fails = fails_more (files.most n) (most n) (t.script n) (bound n) (h n free differs).fails; answer = (h n free differs).answer }
+      (fails_more (files.most n) (most n) (t.script n) (bound n) (h n free differs).0, (h n free differs).1)
 
   pub files_wider : (told now : Option Told) (Is : Told → RequestOutcome → Type 0) (ended : Ended) (counts later : PerName) → WhereTold told now (λ t u. FilesShow (Is t) files ended counts later t u)
       → WhereTold told now (λ t u. FilesShow (Is t) (with_file p whole most files) ended counts later t u)
@@ -193,8 +193,8 @@ module _ (p : List ℕ) (whole : List (List ℕ)) (most : List ℕ → ℕ) (fil
 
 -- the files of a run are those of its sources, its sinks and its record, with the program in front
 creates_are : (p : List ℕ) (options : RunOptions) (c : CheckedGraph) (o : Option (List ℕ)) → options.arrivals ≡ o → creates (Some (R.Run p options)) c.parts ≡ created_by options.arrivals c
-creates_are p options c None e = ap (λ (o : Option (List ℕ)). sink_files c.parts ++ if_given o) e ∙ append-nil (sink_files c.parts) ∙ ap (λ (o : Option (List ℕ)). created_by o c) (sym e)
-creates_are p options c (Some file) e = ap (λ (o : Option (List ℕ)). sink_files c.parts ++ if_given o) e ∙ ap (λ (o : Option (List ℕ)). created_by o c) (sym e)
+creates_are p options c None e = ap (λ (o : Option (List ℕ)). sink_files c.parts ++ option_to_list o) e ∙ append-nil (sink_files c.parts) ∙ ap (λ (o : Option (List ℕ)). created_by o c) (sym e)
+creates_are p options c (Some file) e = ap (λ (o : Option (List ℕ)). sink_files c.parts ++ option_to_list o) e ∙ ap (λ (o : Option (List ℕ)). created_by o c) (sym e)
 
 run_files_of : (p : List ℕ) (options : RunOptions) (c : CheckedGraph) → files_of (Some (R.Run p options)) c.parts ≡ with_file p (p ∷ []) (λ n. 1048576) (run_files options.arrivals c)
 run_files_of p options c =
@@ -228,7 +228,7 @@ ran_record told now request p options c ended counts later e h = subst (λ (q : 
 pub run_named : (request : Request) (p : List ℕ) (options : RunOptions) → request ≡ R.Run p options → IsNamedBy options.arrivals (file_names request)
 run_named request p options e = by options.arrivals (ap file_names e)
   where
-    by : (o : Option (List ℕ)) → file_names request ≡ p ∷ cons_option o [] → IsNamedBy o (file_names request)
+    by : (o : Option (List ℕ)) → file_names request ≡ p ∷ option_to_list o → IsNamedBy o (file_names request)
     by None is = tt
     by (Some file) is = ap (λ (ns : List (List ℕ)). is_named ns file) is ∙ ap (λ (b : Bool). bytes_eq p file || (b || false)) (same_name file) ∙ or_true (bytes_eq p file)
 
@@ -340,7 +340,7 @@ replay_kinds request p file cause e = subst (λ (q : Request). MayBe (Some q) ca
     by C.NotBuilt = refl
     by C.BadWords = tt
     by (C.Refused refusal) = tt
-    by (C.BadArrivals op) = refl
+    by (C.BadArrivals op) = (p, file, refl)
     by (C.OpenFailed name) = tt
     by (C.ReadFailed name) = tt
     by (C.WriteFailed name) = tt

@@ -26,9 +26,9 @@ use Rattle.list_engine.specs.RunLaws.{SinkLaw}
 use Rattle.source_rows.specs.Counting.{OnlyReads}
 use Rattle.source_rows.specs.Sources.{ReadsFail}
 use Rattle.spl_driver.specs.Outcome.{RequestOutcome, BadArrivals, IsUnder, meant, run_outcome}
-use Rattle.spl_driver.specs.Answer.{Begun, CauseMeans, DevicesMean, IsOr, cause_of, is_bad_arrivals, is_ended_run}
-use Rattle.spl_driver.specs.Texts.{EndsWith, IsText}
-use Rattle.spl_driver.specs.Steps.{EndsBehind, FilesShow, FollowsOrder, IsRunAs, IsRunOf, MayEndIn, NotWholeFor, RanFor, RanIn, RecordedBy, RunComes, RunComesAs, created_by, run_files, sinks_of}
+use Rattle.spl_driver.specs.Answer.{Begun, CauseMeans, DevicesMean, IsOr, cause_of}
+use Rattle.spl_driver.specs.Texts.{IsText}
+use Rattle.spl_driver.specs.Steps.{EndsBehind, FilesShow, FollowsOrder, IsRunAs, IsRunOf, MayEndIn, NotWholeFor, RanFor, RanIn, RecordedBy, RunComes, RunComesAs, created_by, run_files, sinks_of, is_bad_arrivals, is_ended_run, EndsWith}
 use Rattle.spl_driver.specs.declared.ended.Ended.{Ended}
 use Rattle.spl_driver.proofs.Replaying.{one_under}
 use Rattle.spl_driver.proofs.Running.{AreCreated, FileAt, at_cause, begun_empty, file_at, sunk_each, sunk_files, sunken_of, wrote}
@@ -77,7 +77,7 @@ module _ (law : SinkLaw) (given : Arrivals) (written : Option (List ℕ)) (c : C
 
       stopped : DevicesMean (C.OpenFailed name) (run_files written c) counts later ⊥ (IsRunAs c ended.arrivals t) ended t u → DevicesMean (C.OpenFailed name) (run_files written c) counts later ⊥ (IsUnder t c given) ended t u
       stopped (inl h) = inl h
-      stopped (inr h) = inr (record { failed = h.failed; emptied = h.emptied; runs = (c, graph_of c, meant (graph_of c) t run.arrivals.lists, under) })
+      stopped (inr h) = inr (record { failed = h.failed; empty = h.empty; others = h.others; runs = (c, graph_of c, meant (graph_of c) t run.arrivals.lists, under) })
 
       by_means : IsOr (C.OpenFailed name) ended.cause → CauseMeans ended.cause (IsUnder t c given) ended t u
       by_means (inl is) = at_cause (C.OpenFailed name) (IsUnder t c given) ended t u is begun
@@ -188,7 +188,7 @@ pub partial_text : (order : Order) (counted : Bool) (told : Option Told) (c : Ch
 partial_text order counted told c op ended (Err x) counts now h is e = tt
 partial_text order counted told c op ended (Ok text) counts now h is e =
     subst (λ (k : Cause). IsText counted k (RunComes c order ended.arrivals told counts now) text) (sym is)
-    (BadArrivals c (Some op), partial_comes order c op told ended.arrivals counts now h, refl, e)
+    (BadArrivals c (Some op), partial_comes order c op told ended.arrivals counts now h, (refl, e))
 
 pub partial_outcome : (order : Order) (c : CheckedGraph) (op : ℕ) (told : Option Told) (arrivals : Arrivals) → NotWholeFor c order op told → IfSome told (λ t. IsRunOf c order arrivals t (BadArrivals c (Some op)))
 partial_outcome order c op None arrivals h = tt

@@ -10,10 +10,10 @@ use Rattle.run_report.specs.Texts.{status_text}
 use Rattle.command_line.specs.declared.request.Request.{Request}
 use Rattle.command_line.specs.declared.request.Request.TheVariants as R
 use Rattle.spl_driver.specs.Answer.{Answered, ByWords, IsRun, MayBe, is_report}
-use Rattle.spl_driver.specs.Shown.{IsReport, IsReason, IsRunProgram, NothingRan, Shown}
+use Rattle.spl_driver.specs.Shown.{IsReason, IsRunProgram, NothingRan, Shown}
 use Rattle.spl_driver.specs.Built.{is_built}
 use Rattle.spl_driver.specs.Texts.{wants_counts, IsText, IsToldOutcome}
-use Rattle.spl_driver.specs.Steps.{AnswersRequest}
+use Rattle.spl_driver.specs.Steps.{IsReport, AnswersRequest}
 use Rattle.spl_driver.specs.declared.answer.Answer.{Answer}
 use Rattle.spl_driver.specs.Answer.{IsOr}
 use Rattle.spl_driver.proofs.Showing.{IsPlainCause, plain_record, or_ran, or_reason, plain_ran, quiet_shown}
@@ -86,11 +86,11 @@ pub not_built_request : (told : Option Told) (request : Request) (answer : Answe
     → IfOk answer.text (λ l. l ≡ status_text None C.NotBuilt) → NothingRan answer.ended → AnswersRequest (Some request) answer told told counts counts lent lent
 not_built_request told request answer counts lent other is text none =
     plain_request told told (Some request) C.NotBuilt answer counts counts lent lent is (not_run C.NotBuilt refl) tt other (not_report request other) (quiet_shown C.NotBuilt (Some request) counts counts tt tt (λ n. refl))
-    (λ none. record { answer = inl refl; counts = λ n. refl }) text none (λ small. refl) (not_built_answer told request answer.ended counts other is)
+    (λ none. (inl refl, λ n. refl)) text none (λ small. refl) (not_built_answer told request answer.ended counts other is)
 
 -- the answer where there is no request
 pub no_request_answer : (told : Option Told) (answer : Answer) (counts : PerName) (lent : ℕ) → answer.ended.cause ≡ C.BadWords
     → IfOk answer.text (λ l. l ≡ status_text None C.BadWords) → NothingRan answer.ended → AnswersRequest None answer told told counts counts lent lent
 no_request_answer told answer counts lent is text none =
     plain_request told told None C.BadWords answer counts counts lent lent is (not_run C.BadWords refl) tt tt tt (refl, λ n. refl)
-    (record { answer = inl refl; counts = λ n. refl }) text none (λ small. refl) (words_answer told answer.ended counts is)
+    (inl refl, λ n. refl) text none (λ small. refl) (words_answer told answer.ended counts is)

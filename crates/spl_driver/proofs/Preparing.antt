@@ -1,12 +1,13 @@
 -- A run up to its sinks.
 use Rattle.std.proofs.Common.{◌≡◌, ℕ, suc, arith, Bool, List, [], ◌∷◌, map, refl, sym, ap, subst, ◌∙◌, slice_get, Option, Some, None}
-use Rattle.std.specs.Prelude.{IfSome}
+use Rattle.std.specs.Prelude.{IfSome, IsSomeAnd, option_and_then}
 use Rattle.std.specs.List.{All}
 use Rattle.spl_value.specs.declared.item.Fault.{Fault}
 use Rattle.spl_value.specs.declared.item.FaultKind.TheVariants as K
 use Rattle.spl_value.specs.declared.item.Item.{Item}
 use Rattle.spl_value.specs.declared.item.Item.TheVariants as I
-use Rattle.feed_pour.specs.Counts.{PerName}
+use Rattle.feed_pour.specs.Counts.{PerName, Rose}
+use Rattle.check_laws.specs.Files.{source_file}
 use Rattle.feed_pour.specs.Contents.{Told}
 use Rattle.language_model.specs.declared.checked.CheckedClauses.{CheckedClauses}
 use Rattle.language_model.specs.declared.checked.CheckedClauses.TheVariants as A
@@ -32,8 +33,8 @@ use Rattle.list_engine.specs.declared.run_order.RunAnswer.TheVariants as L
 use Rattle.list_engine.specs.RunOrders.{AreInOrder, IsFirstNotWhole, StopsRun}
 use Rattle.spl_driver.specs.Outcome.{RequestOutcome, NotBuilt, BadArrivals, Runs, IsUnder, meant, run_outcome}
 use Rattle.spl_driver.specs.Outcome as U
-use Rattle.spl_driver.specs.Answer.{SourceUnread, StoppedBy, cause_of}
-use Rattle.spl_driver.specs.Steps.{IsOrderOf, NotWholeFor, RanFor, RanIn, ran}
+use Rattle.spl_driver.specs.Answer.{StoppedBy, cause_of}
+use Rattle.spl_driver.specs.Steps.{IsOrderOf, NotWholeFor, RanFor, RanIn, ran, SourceUnread}
 use Rattle.spl_driver.proofs.Records.{same_record}
 
 -- the rows of the sources that were read
@@ -71,12 +72,8 @@ module _ (numbered : OrderedLaw) (law : ReadFaultLaw) (c : CheckedGraph) (keeps 
       let found = law c (graph_of c) (rows_at rows) (entries_in run.arrivals.lists) f keeps refl are.fit.fit named is kind in
       let row = found.0 in
       let reads = found.1 is_read_fault (ap is_read_failed kind) in
-      record {
-        file = row.file;
-        strict = row.strict;
-        source = part_there c f.op row.op row.file row.strict row.named row.source;
-        rose = are.read f.op row.op row.file row.strict row.named row.source reads;
-      }
+      subst (λ (o : Option CheckedClauses). IsSomeAnd (option_and_then source_file o) (λ file. Rose (counts file).reading (now file).reading))
+      (sym (part_there c f.op row.op row.file row.strict row.named row.source)) (are.read f.op row.op row.file row.strict row.named row.source reads)
 
   stops : (run : Run) (fault : Option Fault) → fault ≡ run_fault (graph_of c) (ran (graph_of c) rows run) → StoppedBy (cause_of fault) c.parts counts now
   stops run None e = tt

@@ -1,8 +1,8 @@
 -- A replay of the record that a run wrote.
 use Rattle.std.proofs.Common.{◌≡◌, ◌≤◌, ◌^◌, ◌∙◌, ℕ, zero, suc, Bool, true, false, List, [], ◌∷◌, length, refl, sym, ap, subst, inl, inr, Option, Some, None, Ok, slice_get}
-use Rattle.std.specs.Prelude.{◌||◌}
+use Rattle.std.specs.Prelude.{◌||◌, IfSome}
 use Rattle.std.specs.List.{cons_option}
-use Rattle.std.specs.Option.{option_map_or}
+use Rattle.std.specs.Option.{option_map_or, option_to_list}
 use Rattle.std.specs.Str.{bytes_eq}
 use Rattle.spl_value.specs.declared.item.Fault.{Fault}
 use Rattle.spl_value.specs.Script.{Script}
@@ -22,7 +22,7 @@ use Rattle.stream_model.specs.Meaning.{Graph, Meaning, lists_at, meaning}
 use Rattle.stream_model.specs.Operators.{Operator, connections}
 use Rattle.arrival_format.specs.ArrivalTexts.{Spells, arrivals_text}
 use Rattle.arrival_format.specs.FormatLaws.{OneRecordLaw, WholeRecordLaw}
-use Rattle.check_laws.specs.Files.{is_named, source_file, source_files}
+use Rattle.check_laws.specs.Files.{is_named, source_file, source_files, sink_file}
 use Rattle.command_line.specs.declared.request.Request.{Request}
 use Rattle.command_line.specs.declared.request.Request.TheVariants as R
 use Rattle.command_line.specs.declared.request.RunOptions.{RunOptions}
@@ -31,7 +31,7 @@ use Rattle.run_report.specs.declared.cause.Cause.{Cause}
 use Rattle.source_rows.specs.Sources.{rows_by, rows_told}
 use Rattle.spl_driver.specs.AcceptedLaws.{KeptLaw}
 use Rattle.spl_driver.specs.Outcome.{RequestOutcome, NoRequest, Unreadable, Refused, NotBuilt, OfPlan, OfSize, Report, Reports, BadArrivals, Runs, IsFound, IsOutcome, IsReplay, IsUnder, partial, whole, unread, misspelt, no_request, not_built, unreadable, refused, checks, plans, runs, replays, spelled, ArePartsIn, of_program, has_fault, has_record_fault, meant, run_outcome}
-use Rattle.spl_driver.specs.Answer.{Answered, AtSink, CauseMeans, EachSink, HoldsText, IsRecordOf, IsRun, RecordHolds, RunsTo, cause_of, counts_of, is_ended_run, CarriedOut}
+use Rattle.spl_driver.specs.Answer.{Answered, CauseMeans, EachSink, HoldsText, IsRecordOf, IsRun, RecordHolds, RunsTo, cause_of, counts_of, CarriedOut}
 use Rattle.spl_driver.specs.ReplayLaws.{AreReadAlike, EndAlike, ReplayLaw, SameFilesLaw}
 use Rattle.spl_driver.specs.RequestLaws.{OneOutcomeLaw}
 use Rattle.run_report.specs.Refusals.{refusal_of}
@@ -39,6 +39,7 @@ use Rattle.spl_driver.specs.declared.ended.Ended.{Ended}
 use Rattle.spl_driver.proofs.Preparing.{part_there}
 use Rattle.spl_value.proofs.Bools.{or_true}
 use Rattle.spl_value.proofs.Lists.{same_name}
+use Rattle.spl_driver.specs.Steps.{is_ended_run}
 
 -- ---- what a run was found to be
 
@@ -120,7 +121,7 @@ same_meaning c t arrivals g m e = cc
 
 -- the names of both requests are the same
 names_same : (program file : List ℕ) (options : RunOptions) → options.arrivals ≡ Some file → file_names (R.Run program options) ≡ file_names (R.Replay program file)
-names_same program file options e = ap (λ (o : Option (List ℕ)). program ∷ cons_option o []) e
+names_same program file options e = ap (λ (o : Option (List ℕ)). program ∷ option_to_list o) e
 
 module _ (kept : KeptLaw) (law : WholeRecordLaw) (t u : Told) (program file : List ℕ) (options : RunOptions) (c : CheckedGraph) (g : Graph) (m : Meaning) (arrivals : Arrivals)
     (given : options.arrivals ≡ Some file) (is_record : IsRecordOf g m arrivals) (alike : AreReadAlike (Some (R.Run program options)) t u)
@@ -166,21 +167,13 @@ replay_law kept law t u program file options c g m arrivals other comes given is
 
 -- ---- both carried out
 
-alike_at : (P Q R : Operator → List ℕ → Type 0) (clauses : CheckedClauses) (op : Operator) → ((file : List ℕ) → P op file → Q op file → R op file) → AtSink P clauses op → AtSink Q clauses op → AtSink R clauses op
-alike_at P Q R (A.FileSource file strict) op both p q = tt
-alike_at P Q R (A.FileSink file) op both p q = both file p q
-alike_at P Q R (A.Filter condition) op both p q = tt
-alike_at P Q R (A.Functor condition output) op both p q = tt
-alike_at P Q R (A.Punctor condition position) op both p q = tt
-alike_at P Q R (A.Split index) op both p q = tt
-alike_at P Q R (A.Union places) op both p q = tt
-alike_at P Q R (A.Custom handlers) op both p q = tt
-alike_at P Q R (A.Aggregate window partition group output) op both p q = tt
-alike_at P Q R (A.Join left right condition output) op both p q = tt
+alike_at : (P Q R : Operator → List ℕ → Type 0) (o : Option (List ℕ)) (op : Operator) → ((file : List ℕ) → P op file → Q op file → R op file) → IfSome o (P op) → IfSome o (Q op) → IfSome o (R op)
+alike_at P Q R None op both p q = tt
+alike_at P Q R (Some file) op both p q = both file p q
 
 each_alike : (P Q R : Operator → List ℕ → Type 0) (ops : List Operator) → ((op : Operator) (file : List ℕ) → P op file → Q op file → R op file) → EachSink P ops → EachSink Q ops → EachSink R ops
 each_alike P Q R [] both p q = tt
-each_alike P Q R (op ∷ ops) both p q = (alike_at P Q R op.clauses op (both op) p.0 q.0, each_alike P Q R ops both p.1 q.1)
+each_alike P Q R (op ∷ ops) both p q = (alike_at P Q R (sink_file op.clauses) op (both op) p.0 q.0, each_alike P Q R ops both p.1 q.1)
 
 -- a run that was carried out had a meaning with its fault
 ran_with : (Is : RequestOutcome → Type 0) (ended : Ended) (t u : Told) → ((report : Report) (x : CheckedGraph) → Is (Reports report x) → ⊥) → CauseMeans ended.cause Is ended t u → IsRun ended.cause → (fault : Option Fault) × (ended.cause ≡ cause_of fault) × RunsTo fault Is ended u
@@ -285,10 +278,6 @@ replay_reports u other request r program file report x (replays p f y _ found is
     replayed (misspelt quiet none) same = let bad : BadArrivals y None ≡ Reports report x = same in cc
     replayed (spelled a s quiet spells is_under) same = under a s is_under same
 
-pub run_ended_by : (k : Cause) → IsRun k → is_ended_run k ≡ true
-run_ended_by k (None, e) = ap is_ended_run e
-run_ended_by k (Some f, e) = ap is_ended_run e
-
 module _ (kept : KeptLaw) (one_record : OneRecordLaw) (one : OneOutcomeLaw) (law : ReplayLaw) (whole_law : WholeRecordLaw) (program file : List ℕ) (options : RunOptions) (ran replayed : Ended) (a b c d : PerName) (TextFailed OtherFailed : Type 0) (before after later now : Told)
     (given : options.arrivals ≡ Some file) (was : Answered (Some (R.Run program options)) ran a b TextFailed before after) (run : IsRun ran.cause)
     (alike : AreReadAlike (Some (R.Run program options)) before later) (read : after.holds file ≡ Some (later.script file).bytes)
@@ -326,7 +315,7 @@ module _ (kept : KeptLaw) (one_record : OneRecordLaw) (one : OneOutcomeLaw) (law
       let followed = replay_at later replayed.arrivals (Some (R.Replay program file)) (Runs y h n) program file y h n other refl refl in
       let checked : y ≡ x = cc in
       let graph : graph_of x ≡ g = same_graph x before ran.arrivals g m found.is in
-      let theirs = subst (λ (z : CheckedGraph). Spells z (later.script file).bytes replayed.arrivals) checked (is.followed (run_ended_by replayed.cause again) y h n other) in
+      let theirs = subst (λ (z : CheckedGraph). Spells z (later.script file).bytes replayed.arrivals) checked (is.followed (inl again) y h n other) in
       let ours = spells_whole whole_law x m ran.arrivals (later.script file).bytes keeps (subst (λ (z : Graph). IsRecordOf z m ran.arrivals) (sym graph) is_record) text followed.spells.short in
       one_record x (later.script file).bytes replayed.arrivals ran.arrivals keeps theirs ours
 

@@ -22,10 +22,10 @@ use Rattle.list_engine.specs.declared.run_order.Order.TheVariants as O
 use Rattle.arrival_format.specs.ArrivalTexts.{Spells}
 use Rattle.arrival_format.specs.FormatLaws.{OneRecordLaw}
 use Rattle.spl_driver.specs.Outcome.{RequestOutcome, BadArrivals, IsReplay, IsUnder, unread, misspelt, spelled, has_record_fault, fails_within}
-use Rattle.spl_driver.specs.Answer.{IsOr, IsRun, IsUnread, NoCountChanged, ReadingFailed, StoppedBy, DevicesShow, WholeReads, is_ended_run}
+use Rattle.spl_driver.specs.Answer.{IsOr, IsRun, IsUnread, NoCountChanged, ReadingFailed, StoppedBy, DevicesShow, WholeReads}
 use Rattle.spl_driver.specs.Shown.{NothingRan}
 use Rattle.spl_driver.specs.Texts.{IsText}
-use Rattle.spl_driver.specs.Steps.{CountsShow, FilesShow, FirstOpening, FirstReading, FollowsOrder, IsRunOf, IsSomeIn, IsSomeReplay, RanGraph, ReasonOf, RecordAt, RecordFails, ReplayComes, Replays, RunComes, replay_files, run_files}
+use Rattle.spl_driver.specs.Steps.{CountsShow, FilesShow, FirstOpening, FirstReading, FollowsOrder, IsRunOf, IsSomeIn, IsSomeReplay, RanGraph, ReasonOf, RecordAt, RecordFails, ReplayComes, Replays, RunComes, replay_files, run_files, is_ended_run}
 use Rattle.spl_driver.specs.declared.answer.Answer.{Answer}
 use Rattle.spl_driver.specs.declared.ended.Ended.{Ended}
 use Rattle.spl_driver.specs.declared.record.RecordRead.TheVariants as D
@@ -67,10 +67,8 @@ record_reads (Some t) file counts later h = λ n differs. failed_within (2 ^ 32)
 record_whole : (told : Option Told) (cause : Cause) (file : List ℕ) (c : CheckedGraph) (counts later : PerName) → IfSome told (RecordFails file counts later)
     → ((cause ≡ C.ReadFailed file) ⊎ (cause ≡ C.NoMemory)) ⊎ ((later file).reading ≡ (counts file).reading) → IfSome told (WholeReads cause (replay_files file c) counts later)
 record_whole None cause file c counts later h at = tt
-record_whole (Some t) cause file c counts later h at = λ n free differs. record {
-  fails = ap (λ (most : ℕ). fails_within most (t.script n)) (at_file file n (h n differs).0) ∙ (h n differs).1;
-  answer = by n (h n differs).0 differs at;
-}
+record_whole (Some t) cause file c counts later h at = λ n free differs.
+    (ap (λ (most : ℕ). fails_within most (t.script n)) (at_file file n (h n differs).0) ∙ (h n differs).1, by n (h n differs).0 differs at)
   where
     by : (n : List ℕ) → n ≡ file → (later n).reading ≢ (counts n).reading → ((cause ≡ C.ReadFailed file) ⊎ (cause ≡ C.NoMemory)) ⊎ ((later file).reading ≡ (counts file).reading) → (cause ≡ C.ReadFailed n) ⊎ (cause ≡ C.NoMemory)
     by n e differs (inl (inl is)) = inl (is ∙ ap (λ (m : List ℕ). C.ReadFailed m) (sym e))
@@ -206,7 +204,7 @@ misspelt_text : (told : Option Told) (file : List ℕ) (c : CheckedGraph) (ended
     → IfOk text (λ l. l ≡ status_text (Some c) (C.BadArrivals None)) → IfOk text (IsText false ended.cause (ReplayComes c file ended.arrivals told counts later))
 misspelt_text told file c ended (Err x) counts later h is e = tt
 misspelt_text told file c ended (Ok text) counts later h is e =
-    subst (λ (k : Cause). IsText false k (ReplayComes c file ended.arrivals told counts later) text) (sym is) (BadArrivals c None, misspelt_comes told file c ended.arrivals counts later h, refl, e)
+    subst (λ (k : Cause). IsText false k (ReplayComes c file ended.arrivals told counts later) text) (sym is) (BadArrivals c None, misspelt_comes told file c ended.arrivals counts later h, (refl, e))
 
 pub misspelt_replay : (told now : Option Told) (file : List ℕ) (c : CheckedGraph) (answer : Answer) (counts later : PerName) (before after : ℕ) → (before < 2 ^ 64 - 257 → after ≡ before) → WhereTold told now TellsSame
     → IfSome told (RecordFails file counts later) → NothingRan answer.ended → answer.ended.cause ≡ C.BadArrivals None → NoCountChanged counts later → IfSome told (λ t. RecordAt D.Bad (t.script file) c)

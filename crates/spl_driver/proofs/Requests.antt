@@ -1,5 +1,6 @@
 -- The outcome of a request is one, and so are the operators of its program.
 use Rattle.std.proofs.Common.{◌≡◌, ◌∙◌, ℕ, Bool, true, false, List, [], refl, sym, ap, subst, inl, inr, ◌⊎◌, Option, Some, None, Result, Ok, Err}
+use Rattle.std.specs.Prelude.{option_and_then}
 use Rattle.feed_pour.specs.Contents.{Told}
 use Rattle.language_model.specs.declared.checked.CheckedClauses.{CheckedClauses}
 use Rattle.language_model.specs.Accepted.{ProgramRefusal, IsAccepted}
@@ -14,7 +15,7 @@ use Rattle.arrival_format.specs.FormatLaws.{OneRecordLaw, SomeReadLaw}
 use Rattle.spl_driver.specs.AcceptedLaws.{KeptLaw, OneAcceptedLaw, SomeAcceptedLaw}
 use Rattle.spl_driver.specs.Built.{is_built}
 use Rattle.spl_driver.specs.Files.{program_of, parts_of}
-use Rattle.spl_driver.specs.Outcome.{RequestOutcome, NoRequest, Unreadable, Refused, NotBuilt, OfPlan, OfSize, Reports, BadArrivals, has_fault, has_record_fault, run_outcome, IsFound, IsOutcome, IsReplay, IsUnder, unread, misspelt, spelled, partial, whole, no_request, not_built, unreadable, refused, checks, plans, runs, replays, ArePartsIn, of_no_request, of_no_program, of_unreadable, of_program}
+use Rattle.spl_driver.specs.Outcome.{RequestOutcome, NoRequest, Unreadable, Refused, NotBuilt, OfPlan, OfSize, Reports, BadArrivals, has_fault, has_record_fault, run_outcome, IsFound, IsOutcome, IsReplay, IsUnder, unread, misspelt, spelled, partial, whole, no_request, not_built, unreadable, refused, checks, plans, runs, replays, ArePartsIn, of_no_program, of_unreadable, of_program}
 use Rattle.spl_driver.specs.RequestLaws.{OneOutcomeLaw, SomeOutcomeLaw, OnePartsLaw, SomePartsLaw}
 use Rattle.spl_driver.specs.Steps.{IsAcceptedOutcome}
 use Rattle.spl_driver.proofs.Replaying.{one_replay, some_replay}
@@ -276,9 +277,12 @@ abbrev PartsBy : Option Request → Told → List CheckedClauses → Type 0
 PartsBy None t parts = parts ≡ []
 PartsBy (Some request) t parts = PartsByFile (program_of request) request t parts
 
+no_program_by : (t : Told) (request : Option Request) → option_and_then program_of request ≡ None → PartsBy request t []
+no_program_by t None none = refl
+no_program_by t (Some request) none = subst (λ (p : Option (List ℕ)). PartsByFile p request t []) (sym none) refl
+
 parts_by : (t : Told) (request : Option Request) (parts : List CheckedClauses) → ArePartsIn t request parts → PartsBy request t parts
-parts_by t request parts of_no_request = refl
-parts_by t request parts (of_no_program asked none) = subst (λ (p : Option (List ℕ)). PartsByFile p asked t []) (sym none) refl
+parts_by t request parts (of_no_program asked none) = no_program_by t asked none
 parts_by t request parts (of_unreadable asked program of fault) =
     subst (λ (p : Option (List ℕ)). PartsByFile p asked t []) (sym of) (subst (λ (b : Bool). PartsByFault b asked (t.script program).bytes []) (sym fault) refl)
 parts_by t request parts (of_program asked program found of is) =
@@ -286,7 +290,7 @@ parts_by t request parts (of_program asked program found of is) =
     (subst (λ (b : Bool). PartsByFault b asked (t.script program).bytes (parts_of found)) (sym is.read) (found, is.accepted, refl))
 
 pub parts_from : (t : Told) (request : Option Request) (parts : List CheckedClauses) → PartsBy request t parts → ArePartsIn t request parts
-parts_from t None parts e = subst (ArePartsIn t None) (sym e) of_no_request
+parts_from t None parts e = subst (ArePartsIn t None) (sym e) (of_no_program None refl)
 parts_from t (Some request) parts h = by_file (program_of request) refl h
   where
     by_fault : (program : List ℕ) → program_of request ≡ Some program → (b : Bool) → has_fault (t.script program) ≡ b → PartsByFault b request (t.script program).bytes parts
@@ -296,7 +300,7 @@ parts_from t (Some request) parts h = by_file (program_of request) refl h
         subst (ArePartsIn t (Some request)) (sym e) (of_program request program found of (record { read = quiet; accepted = accepted }))
 
     by_file : (o : Option (List ℕ)) → program_of request ≡ o → PartsByFile o request t parts → ArePartsIn t (Some request) parts
-    by_file None none e = subst (ArePartsIn t (Some request)) (sym e) (of_no_program request none)
+    by_file None none e = subst (ArePartsIn t (Some request)) (sym e) (of_no_program (Some request) none)
     by_file (Some program) of h = by_fault program of (has_fault (t.script program)) refl h
 
 one_parts_by_fault : OneAcceptedLaw → (fault : Bool) (request : Request) (bytes : List ℕ) (x y : List CheckedClauses) → PartsByFault fault request bytes x → PartsByFault fault request bytes y → x ≡ y

@@ -1,6 +1,6 @@
 -- What holds after a run, from its streams and what was written of them.
 use Rattle.std.proofs.Common.{◌≡◌, ◌≢◌, ◌∙◌, ◌<◌, ◌≤◌, ◌+◌, ◌-◌, ◌^◌, ℕ, zero, suc, arith, slice_get, slice_index_or, Bool, true, false, List, [], ◌∷◌, ◌++◌, length, take, drop, refl, sym, ap, subst, inl, inr, Option, Some, None, Result, Ok, Err}
-use Rattle.std.specs.Prelude.{IfSome, IfOk, ◌⊎◌}
+use Rattle.std.specs.Prelude.{IfSome, IfOk, IsSomeAnd, option_and_then, ◌⊎◌}
 use Rattle.std.specs.Str.{bytes_eq}
 use Rattle.std.proofs.lemmas.Bool.{or_parts}
 use Rattle.std.proofs.lemmas.List.{get_or-map, get_or-take, get_or_append_left, length-append, length-map, length-take, take_all}
@@ -25,7 +25,7 @@ use Rattle.stream_model.specs.Meaning.{Graph, Meaning, meaning}
 use Rattle.run_report.specs.declared.cause.Cause.{Cause}
 use Rattle.run_report.specs.declared.cause.Cause.TheVariants as C
 use Rattle.run_report.specs.Texts.{status_text}
-use Rattle.check_laws.specs.Files.{source_files, sink_files, is_named, OwnFiles}
+use Rattle.check_laws.specs.Files.{source_file, source_files, sink_files, is_named, OwnFiles}
 use Rattle.file_adapters.specs.declared.sinks.Sink.{Sink}
 use Rattle.file_adapters.specs.declared.sinks.Sunk.{Sunk}
 use Rattle.file_adapters.specs.declared.sinks.Sunk.TheVariants as S
@@ -39,11 +39,11 @@ use Rattle.source_rows.specs.Sources.{ReadsFail, rows_told}
 use Rattle.list_engine.specs.Runs.{rows_at}
 use Rattle.spl_driver.specs.Files.{FilesOf}
 use Rattle.spl_driver.specs.Outcome.{RequestOutcome, NoRequest, Unreadable, Refused, NotBuilt, Reports, BadArrivals, Runs, meant, run_outcome}
-use Rattle.spl_driver.specs.Answer.{EachSink, HoldsText, HoldsPrefix, HoldsUnlessFailed, SameFiles, CarriedOut, Begun, CauseMeans, CreatingFailed, DevicesMean, DevicesShow, Emptied, IsRecordOf, RecordHolds, of_sink, of_record, of_telling, WritingFailed, WroteOthers, SourceUnread, StoppedBy, WholeReads, cause_of, counts_of, is_bad_arrivals, is_ended_run, IsOr, IsRun}
+use Rattle.spl_driver.specs.Answer.{EachSink, HoldsText, HoldsPrefix, HoldsUnlessFailed, SameFiles, CarriedOut, Begun, CauseMeans, CreatingFailed, DevicesMean, DevicesShow, IsRecordOf, RecordHolds, of_sink, of_record, of_telling, WritingFailed, WroteOthers, StoppedBy, WholeReads, cause_of, counts_of, IsOr, IsRun}
 use Rattle.arrival_format.specs.ArrivalTexts.{arrivals_text}
 use Rattle.spl_driver.specs.Texts.{IsText, run_text}
 use Rattle.spl_driver.specs.Shown.{NothingRan, Ran, RanTo}
-use Rattle.spl_driver.specs.Steps.{RanFor, RanGraph, ReasonOf, ran, IsRunAs, RunComesAs, CountsShow, FilesShow, EndsAs, EndsBehind, EndsRun, RecordOf, RecordedBy, TellsBehind, TellsRun, IsNamedBy, created_by, last_of, run_files, sinks_of, sinks_from, counts_from}
+use Rattle.spl_driver.specs.Steps.{RanFor, RanGraph, ReasonOf, ran, IsRunAs, RunComesAs, CountsShow, FilesShow, EndsAs, EndsBehind, EndsRun, RecordOf, RecordedBy, TellsBehind, TellsRun, IsNamedBy, created_by, last_of, run_files, sinks_of, sinks_from, counts_from, SourceUnread, is_bad_arrivals, is_ended_run}
 use Rattle.spl_driver.specs.declared.answer.Answer.{Answer}
 use Rattle.spl_driver.specs.declared.ended.Ended.{Ended}
 use Rattle.spl_driver.proofs.Showing.{or_ran}
@@ -293,8 +293,7 @@ creating_failed : (written : Option (List ℕ)) (c : CheckedGraph) (place : ℕ)
     → ((n : List ℕ) → (new n).opening ≡ (mid n).opening) → Y.CreatingFailed place (created_by written c) name mid new → CreatingFailed (run_files written c) name old new
 creating_failed written c place old mid new name reads opening h = record {
   before = take place (created_by written c);
-  behind = drop (suc place) (created_by written c);
-  order = names_at (created_by written c) place name h.at;
+  order = (drop (suc place) (created_by written c), names_at (created_by written c) place name h.at);
   rose = subst (λ (k : ℕ). Rose k (new name).creating) (reads.reads name).creating h.rose;
   later = λ n free other.
       let p = parts_free (source_files c.parts) (take place (created_by written c)) n free in
@@ -309,13 +308,11 @@ writing_failed : (written : Option (List ℕ)) (c : CheckedGraph) (place : ℕ) 
     → FilesCounted (S.NotWritten place) (created_by written c) mid new → Y.WritingFailed place (created_by written c) name mid new → WritingFailed (run_files written c) name old new
 writing_failed written c place old mid new name names own reads counted h = record {
   before = take place (created_by written c);
-  behind = drop (suc place) (created_by written c);
-  order = names_at (created_by written c) place name h.at;
+  order = (drop (suc place) (created_by written c), names_at (created_by written c) place name h.at);
   rose = subst (λ (k : ℕ). Rose k (new name).writing) (reads.reads name).writing h.rose;
   first = λ k n small. h.before k n small ∙ unread k n small;
   others = λ n free. read_same (old n) (mid n) (new n) (reads.reads n) (counted.others n free);
-  creating = λ n. h.creating n ∙ (reads.reads n).creating;
-  opening = λ n. counted.opening n ∙ (reads.reads n).opening;
+  made = λ n. (h.creating n ∙ (reads.reads n).creating, counted.opening n ∙ (reads.reads n).opening);
 }
   where
     unread : (k : ℕ) (n : List ℕ) → k < length (take place (created_by written c)) → mid (slice_index_or (take place (created_by written c)) k n) ≡ old (slice_index_or (take place (created_by written c)) k n)
@@ -367,8 +364,11 @@ sinks_words (S.NotWritten place) written c fault ended old new counted ends e = 
 
 -- a run that stops at a read that failed, after the sinks
 unread_on : (parts : List CheckedClauses) (op : ℕ) (old mid new : PerName) → ((n : List ℕ) → (new n).reading ≡ (mid n).reading) → SourceUnread parts op old mid → SourceUnread parts op old new
-unread_on parts op old mid new same h =
-    record { file = h.file; strict = h.strict; source = h.source; rose = subst (λ (k : ℕ). Rose (old h.file).reading k) (sym (same h.file)) h.rose }
+unread_on parts op old mid new same h = go (option_and_then source_file (slice_get parts op)) h
+  where
+    go : (o : Option (List ℕ)) → IsSomeAnd o (λ file. Rose (old file).reading (mid file).reading) → IsSomeAnd o (λ file. Rose (old file).reading (new file).reading)
+    go None h = h
+    go (Some file) h = subst (λ (k : ℕ). Rose (old file).reading k) (sym (same file)) h
 
 fault_on : (fault : Option Fault) (parts : List CheckedClauses) (old mid new : PerName) → ((n : List ℕ) → (new n).reading ≡ (mid n).reading) → StoppedBy (cause_of fault) parts old mid → StoppedBy (cause_of fault) parts old new
 fault_on None parts old mid new same h = tt
@@ -400,10 +400,6 @@ counts_behind r written c fault ended old mid new names own reads h ends stopped
 
 -- ---- and what the files hold
 
--- the files before a place are empty
-emptied : (names : List (List ℕ)) (place : ℕ) (t u : Told) → EmptyBefore place names t u → Emptied (take place names) t u
-emptied names place t u h = record { empty = h.empty; others = h.others }
-
 sunk_means : (law : SinkLaw) (r : Sunk) (written : Option (List ℕ)) (c : CheckedGraph) (run : Run) (ended : Ended) (counts between later : PerName) (t u : Told) (names : List (List ℕ))
     → OwnFiles names c.parts → OnlyReads (source_files c.parts) counts between → Sunken law r written c run ended counts between counts later t u → RecordedBy r ended run.arrivals → FilesCounted r (created_by written c) between later
     → EndsBehind r run.fault c (created_by written c) ended → DevicesMean ended.cause (run_files written c) counts later ⊥ (IsRunAs c ended.arrivals t) ended t u
@@ -425,22 +421,23 @@ sunk_means law (S.NotCreated place) written c run ended counts between later t u
     by (inl is) = subst (λ (k : Cause). DevicesMean k (run_files written c) counts later ⊥ (IsRunAs c ended.arrivals t) ended t u) (sym is)
         (inr (record {
           failed = creating_failed written c place counts between later counted.cause.0 reads counted.opening counted.cause.1;
-          emptied = emptied (created_by written c) place t u h.holds;
+          empty = h.holds.empty;
+          others = h.holds.others;
           runs = (c, h.made.graph, meant h.made.graph t ended.arrivals.lists, sym (h.made.outcome ended.arrivals));
         }))
     by (inr is) = subst (λ (k : Cause). DevicesMean k (run_files written c) counts later ⊥ (IsRunAs c ended.arrivals t) ended t u) (sym is) tt
 sunk_means law (S.NotWritten place) written c run ended counts between later t u names own reads h rec counted ends = by (ends counted.cause.0 counted.cause.1.at)
   where
     others : WroteOthers (IsRunAs c ended.arrivals t) counts later ended u
-    others = record {
-      checked = c;
-      graph = h.made.graph;
-      meaning = meant h.made.graph t ended.arrivals.lists;
-      comes = comes_of law (S.NotWritten place) written c run ended counts between counts later t u h rec;
-      texts = subst (λ (x : Meaning). EachSink (HoldsUnlessFailed x counts later u) h.made.graph.ops) (same_of law (S.NotWritten place) written c run ended counts between counts later t u h rec)
-          (wrote_others c h.made.graph (ran h.made.graph h.made.rows run) run.sinks h.keeps h.made.is law h.made.sinks place (created_by written c) counts later t u h.holds);
-      recorded = record_of law (S.NotWritten place) written c run ended counts between counts later t u h rec;
-    }
+    others = (
+      c,
+      h.made.graph,
+      meant h.made.graph t ended.arrivals.lists,
+      comes_of law (S.NotWritten place) written c run ended counts between counts later t u h rec,
+      subst (λ (x : Meaning). EachSink (HoldsUnlessFailed x counts later u) h.made.graph.ops) (same_of law (S.NotWritten place) written c run ended counts between counts later t u h rec)
+          (wrote_others c h.made.graph (ran h.made.graph h.made.rows run) run.sinks h.keeps h.made.is law h.made.sinks place (created_by written c) counts later t u h.holds),
+      record_of law (S.NotWritten place) written c run ended counts between counts later t u h rec,
+    )
 
     by : IsOr (C.WriteFailed counted.cause.0) ended.cause → DevicesMean ended.cause (run_files written c) counts later ⊥ (IsRunAs c ended.arrivals t) ended t u
     by (inl is) = subst (λ (k : Cause). DevicesMean k (run_files written c) counts later ⊥ (IsRunAs c ended.arrivals t) ended t u) (sym is)
@@ -608,8 +605,8 @@ counted_as law ns told c run ended counts between p keeps count counted =
 
 text_of_fault : (counted : Bool) (fault : Option Fault) (Is : RequestOutcome → Type 0) (c : CheckedGraph) (g : Graph) (m : Meaning) (text : List ℕ) → Is (Runs c g m) → fault ≡ run_fault g m
     → text ≡ run_text counted c (counts_of g m) (cause_of fault) → IsText counted (cause_of fault) Is text
-text_of_fault counted None Is c g m text is ends e = (Runs c g m, is, ap cause_of ends, e)
-text_of_fault counted (Some fault) Is c g m text is ends e = (Runs c g m, is, ap cause_of ends, e)
+text_of_fault counted None Is c g m text is ends e = (Runs c g m, is, (ap cause_of ends, e))
+text_of_fault counted (Some fault) Is c g m text is ends e = (Runs c g m, is, (ap cause_of ends, e))
 
 -- the text of a run that was carried out
 run_text_of : (law : SinkLaw) (counted : Bool) (told : Option Told) (c : CheckedGraph) (run : Run) (ns : List ℕ) (ended : Ended) (text : List ℕ) (counts between later : PerName) → Keeps c → SinksCount (S.Done ns) (sinks_of c) run.sinks

@@ -10,13 +10,13 @@ use Rattle.command_line.specs.declared.request.Request.{Request}
 use Rattle.command_line.specs.declared.request.Request.TheVariants as R
 use Rattle.command_line.specs.declared.request.RunOptions.{RunOptions}
 use Rattle.source_rows.specs.Counting.{OnlyReads}
-use Rattle.spl_driver.specs.Answer.{DevicesShow, IsRun, OUT, NoCountChanged, cause_of, is_bad_arrivals, is_report}
+use Rattle.spl_driver.specs.Answer.{DevicesShow, IsRun, NoCountChanged, cause_of, is_report}
 use Rattle.spl_driver.specs.Built.{is_built}
 use Rattle.spl_driver.specs.Files.{FilesOf, files_of, program_of, row_files}
-use Rattle.spl_driver.specs.Texts.{ToldAs}
-use Rattle.spl_driver.specs.Outcome.{IsSomeProgram}
-use Rattle.spl_driver.specs.Shown.{ArePartsOf, IsReport, IsReason, IsRunProgram, TextShown, NothingRan, Ran, RanShown, RunShown, Shown, ShownBy}
-use Rattle.spl_driver.specs.Steps.{CountsShow, FirstOpening, FirstReading, IsRunGraph, RanAccepted, RanGraph, ReasonOf}
+use Rattle.spl_driver.specs.Texts.{ToldAs, OUT}
+use Rattle.spl_driver.specs.Outcome.{IsProgramOf}
+use Rattle.spl_driver.specs.Shown.{ArePartsOf, IsReason, IsRunProgram, TextShown, NothingRan, Ran, RanShown, RunShown, Shown, ShownBy}
+use Rattle.spl_driver.specs.Steps.{IsReport, CountsShow, FirstOpening, FirstReading, IsRunGraph, RanAccepted, RanGraph, ReasonOf, is_bad_arrivals}
 use Rattle.spl_driver.specs.Answer.{IsOr}
 use Rattle.spl_driver.specs.declared.ended.Ended.{Ended}
 use Rattle.spl_driver.proofs.Fetching.{quiet_only}
@@ -101,7 +101,7 @@ shown_of (C.BadArrivals op) request old new Text other h = h
 shown_of (C.WriteFailed name) request old new Text other h = inl h
 shown_of C.NoMemory request old new Text other h = h
 
-pub shown_after : (cause : Cause) (request : Request) (c : CheckedGraph) (old mid new : PerName) (Text : Type 0) → IsSomeProgram request c
+pub shown_after : (cause : Cause) (request : Request) (c : CheckedGraph) (old mid new : PerName) (Text : Type 0) → IsProgramOf (Some request) c
     → NoCountChanged old mid → CountsShow cause c.parts (files_of (Some request) c.parts) mid new → Shown cause (Some request) old new Text
 shown_after cause request c old mid new Text program quiet h =
     subst (λ (k : PerName). Shown cause (Some request) k new Text) (same_counts old mid quiet) (shown_of cause (Some request) mid new Text h.words (record {
@@ -124,7 +124,7 @@ only_stop c request counts later Text (Some fault, is) h = let s : ShownBy (C.St
 pub text_shown : (c : Cause) (request : Option Request) (counts later : PerName) (Text Failed : Type 0) → IsRun c → Failed → Shown c request counts later Text → TextShown OUT request counts later Failed
 text_shown c request counts later Text Failed run failed h =
     let only = only_stop c request counts later Text run h in
-    record { named = refl; failed = failed; parts = only.0; are = only.1; counted = only.2 }
+    (only.0, only.1, (refl, failed, only.2))
 
 -- memory may run out after each answer
 wanting_by : (c : Cause) (request : Option Request) (counts later : PerName) → ShownBy c request counts later → ShownBy C.NoMemory request counts later
@@ -140,7 +140,7 @@ wanting_shown (C.OpenFailed name) request counts later Text h = wanting_by (C.Op
 wanting_shown (C.ReadFailed name) request counts later Text h = wanting_by (C.ReadFailed name) request counts later h
 wanting_shown (C.BadArrivals op) request counts later Text h = wanting_by (C.BadArrivals op) request counts later h
 wanting_shown (C.WriteFailed name) request counts later Text (inl h) = wanting_by (C.WriteFailed name) request counts later h
-wanting_shown (C.WriteFailed name) request counts later Text (inr h) = absurd h.failed
+wanting_shown (C.WriteFailed name) request counts later Text (inr h) = absurd h.2.1
 wanting_shown C.NoMemory request counts later Text h = h
 
 shown_text : (c : Cause) (request : Option Request) (counts later : PerName) (Text : Type 0) → Shown c request counts later ⊥ → Shown c request counts later Text
@@ -153,7 +153,7 @@ shown_text (C.OpenFailed name) request counts later Text h = h
 shown_text (C.ReadFailed name) request counts later Text h = h
 shown_text (C.BadArrivals op) request counts later Text h = h
 shown_text (C.WriteFailed name) request counts later Text (inl h) = inl h
-shown_text (C.WriteFailed name) request counts later Text (inr h) = absurd h.failed
+shown_text (C.WriteFailed name) request counts later Text (inr h) = absurd h.2.1
 shown_text C.NoMemory request counts later Text h = h
 
 -- what the counts show stays
@@ -169,7 +169,7 @@ pub or_reason : (expected cause : Cause) (request : Option Request) → IsOr exp
 or_reason expected cause request (inl e) h = subst (λ (k : Cause). IsReason k request) (sym e) h
 or_reason expected cause request (inr e) h = subst (λ (k : Cause). IsReason k request) (sym e) tt
 
-pub reason_of : (cause : Cause) (request : Request) (c : CheckedGraph) → IsSomeProgram request c → ReasonOf cause c → IsReason cause (Some request)
+pub reason_of : (cause : Cause) (request : Request) (c : CheckedGraph) → IsProgramOf (Some request) c → ReasonOf cause c → IsReason cause (Some request)
 reason_of (C.Refused refusal) request c program h = absurd h
 reason_of C.NotBuilt request c program h = absurd h
 reason_of C.Done request c program h = tt
@@ -273,11 +273,11 @@ replay_ran cause request p file c ended counts now e h =
     run_map cause (λ x. x ≡ c) (IsRunGraph request c) ⊥ (is_report (Some request) ≡ true) ended counts now (λ x is. (ap (λ (q : Request). is_report (Some q)) e, is)) (λ never. absurd never) h
 
 -- the request ran its program
-pub request_ran : (cause : Cause) (request : Request) (c : CheckedGraph) (ended : Ended) (counts between later : PerName) → IsSomeProgram request c → NoCountChanged counts between
+pub request_ran : (cause : Cause) (request : Request) (c : CheckedGraph) (ended : Ended) (counts between later : PerName) → IsProgramOf (Some request) c → NoCountChanged counts between
     → RanAccepted cause request c ended between later → RanShown cause (Some request) ended counts later
 request_ran cause request c ended counts between later program quiet h =
     run_map cause (IsRunGraph request c) (IsRunProgram (Some request)) (is_report (Some request) ≡ true) (IsReport (Some request)) ended counts later
-    (λ x is. (is.0, subst (IsSomeProgram request) (sym is.1) program)) (λ check. (check, (c, program)))
+    (λ x is. (is.0, subst (IsProgramOf (Some request)) (sym is.1) program)) (λ check. (check, (c, program)))
     (subst (λ (k : PerName). RanAccepted cause request c ended k later) (same_counts counts between quiet) h)
 
 -- once the text is told

@@ -4,6 +4,7 @@ use Rattle.std.proofs.Math.Seq.{take-length}
 use Rattle.std.proofs.lemmas.List.Elements.{All-weaker}
 use Rattle.std.proofs.lemmas.Slice.Eq.{bytes_eq-Decides}
 use Rattle.std.specs.List.{All, cons_option, count_by, filter_map}
+use Rattle.std.specs.Prelude.{IfSome}
 use Rattle.std.specs.Str.{bytes_eq}
 use Rattle.spl_value.specs.declared.item.Item.{Item}
 use Rattle.feed_pour.specs.Counts.{PerName}
@@ -28,27 +29,19 @@ use Rattle.file_adapters.specs.Sinks as S
 use Rattle.file_adapters.specs.Sinks.{AreDistinct, EmptyBefore, HasOwnFile, HoldsFront, SinksCount, SinksHold, names_of, sink_names, sink_rows, stream_at}
 use Rattle.list_engine.specs.RunLaws.{SinkLaw}
 use Rattle.list_engine.specs.Runs.{SinksGiven}
-use Rattle.spl_driver.specs.Answer.{AtSink, EachSink, HoldsPrefix, HoldsText, HoldsUnlessFailed, SameFiles, sink_count, sink_text, tuples_of}
+use Rattle.spl_driver.specs.Answer.{EachSink, HoldsPrefix, HoldsText, HoldsUnlessFailed, SameFiles, sink_count, sink_text}
 use Rattle.spl_driver.specs.Steps.{IsNamedBy, counts_from, created_by, last_of, sinks_from, sinks_of}
 use Rattle.spl_driver.proofs.Operators.{operator_at, ops_made}
 
 -- ---- files that stay
 
-prefix_at : (m : Meaning) (t u : Told) (clauses : CheckedClauses) (op : Operator) → SameFiles t u → AtSink (HoldsPrefix m t u) clauses op
-prefix_at m t u (A.FileSource file strict) op same = tt
-prefix_at m t u (A.FileSink file) op same = inl (same file)
-prefix_at m t u (A.Filter condition) op same = tt
-prefix_at m t u (A.Functor condition output) op same = tt
-prefix_at m t u (A.Punctor condition position) op same = tt
-prefix_at m t u (A.Split index) op same = tt
-prefix_at m t u (A.Union places) op same = tt
-prefix_at m t u (A.Custom handlers) op same = tt
-prefix_at m t u (A.Aggregate window partition group output) op same = tt
-prefix_at m t u (A.Join left right condition output) op same = tt
+prefix_at : (m : Meaning) (t u : Told) (o : Option (List ℕ)) (op : Operator) → SameFiles t u → IfSome o (HoldsPrefix m t u op)
+prefix_at m t u None op same = tt
+prefix_at m t u (Some file) op same = inl (same file)
 
 pub same_prefixes : (m : Meaning) (t u : Told) (ops : List Operator) → SameFiles t u → EachSink (HoldsPrefix m t u) ops
 same_prefixes m t u [] same = tt
-same_prefixes m t u (op ∷ ops) same = (prefix_at m t u op.clauses op same, same_prefixes m t u ops same)
+same_prefixes m t u (op ∷ ops) same = (prefix_at m t u (sink_file op.clauses) op same, same_prefixes m t u ops same)
 
 -- ---- the files of sinks
 
@@ -142,7 +135,7 @@ at_rest Q P c from op part ops parts h n number o file is there has = h (suc n) 
 
 at_part : (Q : Operator → List ℕ → Type 0) (P : Sink → Type 0) (c : CheckedGraph) (from : ℕ) (op : Op) (part : CheckedClauses) (parts : List CheckedClauses)
     → ((file : List ℕ) → part ≡ A.FileSink file → P (sink_with from file) → Q (operator_with c from op (A.FileSink file)) file)
-    → All P (sinks_from from (part ∷ parts)) → AtSink Q part (operator_with c from op part) × All P (sinks_from (suc from) parts)
+    → All P (sinks_from from (part ∷ parts)) → IfSome (sink_file part) (Q (operator_with c from op part)) × All P (sinks_from (suc from) parts)
 at_part Q P c from op (A.FileSource file strict) parts h all = (tt, all)
 at_part Q P c from op (A.FileSink file) parts h all = (h file refl (all 0 (sink_with from file) (omega arith)), λ i d l. all (suc i) d (omega (arith, l)))
 at_part Q P c from op (A.Filter condition) parts h all = (tt, all)
@@ -285,6 +278,10 @@ wrote_others c g m lists k e law are place names counts now t u holds =
 
 -- ---- their rows
 
+-- the number of tuples of a sink
+abbrev tuples_of : Meaning → Operator → ℕ
+tuples_of m op = min (length (out op 0 (m.events op.number))) (2 ^ 64 - 1)
+
 least : (n : ℕ) → n < 2 ^ 64 → min n (2 ^ 64 - 1) ≡ n
 least n small = omega (arith, small)
 
@@ -314,7 +311,7 @@ count_part : (m : Meaning) (lists : List (List Item)) (c : CheckedGraph) (from :
     → tuples_of m (operator_with c from op (A.FileSink file)) ≡ sink_rows lists (sink_with from file))
     → (Small (rows_from lists (suc from) parts) → counts_from (suc from) parts (rows_from lists (suc from) parts) ≡ more)
     → Small (rows_from lists from (part ∷ parts))
-    → counts_from from (part ∷ parts) (rows_from lists from (part ∷ parts)) ≡ cons_option (sink_count m part (operator_with c from op part)) more
+    → counts_from from (part ∷ parts) (rows_from lists from (part ∷ parts)) ≡ cons_option (sink_count m (operator_with c from op part)) more
 count_part m lists c from op (A.FileSource file strict) parts more h later small = later small
 count_part m lists c from op (A.FileSink file) parts more h later small =
     let tuples = sym (h file refl (small 0 0 (omega arith))) in
@@ -330,7 +327,7 @@ count_part m lists c from op (A.Aggregate window partition group output) parts m
 count_part m lists c from op (A.Join left right condition output) parts more h later small = later small
 
 abbrev counts_in : Meaning → List Operator → List SinkCount
-counts_in m ops = filter_map (λ (op : Operator). sink_count m op.clauses op) ops
+counts_in m ops = filter_map (sink_count m) ops
 
 counts_made : (m : Meaning) (lists : List (List Item)) (c : CheckedGraph) (from : ℕ) (ops : List Op) (parts : List CheckedClauses) → length parts ≡ length ops
     → CountsAt m lists c from ops parts → Small (rows_from lists from parts) → counts_from from parts (rows_from lists from parts) ≡ counts_in m (operators_from c from ops parts)
@@ -345,7 +342,7 @@ counts_made m lists c from (op ∷ ops) (part ∷ parts) l h small =
 
 -- the counts of a run are those of the meaning
 pub counts_are : (c : CheckedGraph) (g : Graph) (m : Meaning) (lists : List (List Item)) → Keeps c → graph_of c ≡ g → SinkLaw → SinksGiven g m lists → (ns : List ℕ) → SinksCount (W.Done ns) (sinks_of c) lists
-    → counts_from 0 c.parts ns ≡ filter_map (λ op. sink_count m op.clauses op) g.ops
+    → counts_from 0 c.parts ns ≡ filter_map (sink_count m) g.ops
 counts_are c g m lists k e law are ns count =
     ap (counts_from 0 c.parts) count.0
     ∙ counts_made m lists c 0 c.graph.ops c.parts k.parts

@@ -22,13 +22,13 @@ use Rattle.spl_value.specs.declared.item.Fault.{Fault}
 use Rattle.source_rows.specs.Counting.{OpeningFailed}
 use Rattle.spl_driver.specs.Built.{is_built}
 use Rattle.spl_driver.specs.Files.{FilesOf, files_of, opens, creates, most_bytes, row_files, whole_files, program_of}
-use Rattle.spl_driver.specs.Outcome.{RequestOutcome, NoRequest, Refused, NotBuilt, Reports, BadArrivals, Runs, fails_within, has_fault, IsOutcome, IsSomeProgram, no_request, not_built, ArePartsIn, of_program, meant}
-use Rattle.spl_driver.specs.Answer.{EachSink, HoldsText, SameFiles, Begun, CauseMeans, ReportsTo, RunsTo, WroteOthers, StoppedCreating, TellingFailed, DevicesMean, ReadingFailed, ReadingAnswered, WholeReads, WholeFails, NoCountChanged, StoppedBy, Answered, ByWords, FollowsRecord, IsOr, IsUnread, NeedsRecord, RecordHolds, WritesRecord, is_ended_run, is_refused}
-use Rattle.spl_driver.specs.Texts.{wants_counts, EndsWith, IsToldOutcome, IsText, IsTextOf, MayComeTo}
+use Rattle.spl_driver.specs.Outcome.{RequestOutcome, NoRequest, Unreadable, Refused, NotBuilt, Reports, BadArrivals, Runs, fails_within, has_fault, IsOutcome, IsProgramOf, no_request, not_built, ArePartsIn, of_program, meant}
+use Rattle.spl_driver.specs.Answer.{EachSink, HoldsText, SameFiles, Begun, CauseMeans, ReportsTo, RunsTo, WroteOthers, StoppedCreating, TellingFailed, DevicesMean, ReadingFailed, WholeReads, NoCountChanged, StoppedBy, Answered, ByWords, FollowsRecord, IsOr, IsRun, IsUnread, NeedsRecord, RecordHolds, WritesRecord}
+use Rattle.spl_driver.specs.Texts.{wants_counts, IsToldOutcome, EndsTelling, IsText, IsTextOf, MayComeTo}
 use Rattle.spl_driver.specs.RequestLaws.{OnePartsLaw}
 use Rattle.spl_driver.specs.AcceptedLaws.{OneAcceptedLaw}
 use Rattle.arrival_format.specs.ArrivalTexts.{Spells, arrivals_text}
-use Rattle.spl_driver.specs.Steps.{FirstOpening, FirstReading, MayBeOutcome, CompiledAt, FollowsFile, IsAcceptedOutcome, IsToldAcceptedOutcome, CountsShow, FilesShow, RecordFor, RecordOf}
+use Rattle.spl_driver.specs.Steps.{FirstOpening, FirstReading, MayBeOutcome, CompiledAt, FollowsFile, IsAcceptedOutcome, IsToldAcceptedOutcome, CountsShow, FilesShow, RecordFor, RecordOf, ReadingAnswered, WholeFails, is_ended_run, EndsWith}
 use Rattle.spl_driver.specs.declared.compiled.Compiled.TheVariants as P
 use Rattle.spl_driver.specs.declared.ended.Ended.{Ended}
 use Rattle.spl_driver.proofs.Fetching.{fails_more, own_name, quiet_only, read_itself, reads_whole, told_again, same_told}
@@ -77,24 +77,18 @@ ran_map Is Js ended t u to (inl h) = inl (reports_map Is Js ended t u to h)
 ran_map Is Js ended t u to (inr (fault, h)) = inr (fault, runs_map Is Js fault ended u to h)
 
 others_map : (Is Js : RequestOutcome → Type 0) (counts now : PerName) (ended : Ended) (u : Told) → ((r : RequestOutcome) → Is r → Js r) → WroteOthers Is counts now ended u → WroteOthers Js counts now ended u
-others_map Is Js counts now ended u to h = record {
-  checked = h.checked;
-  graph = h.graph;
-  meaning = h.meaning;
-  comes = to (Runs h.checked h.graph h.meaning) h.comes;
-  texts = h.texts;
-  recorded = h.recorded;
-}
+others_map Is Js counts now ended u to (c, g, m, is, texts, recorded) = (c, g, m, to (Runs c g m) is, texts, recorded)
 
 telling_map : (files : FilesOf) (name : List ℕ) (counts now : PerName) (Text : Type 0) (Is Js : RequestOutcome → Type 0) (ended : Ended) (t u : Told) → ((r : RequestOutcome) → Is r → Js r)
-    → TellingFailed files name counts now Text Is ended t u → TellingFailed files name counts now Text Js ended t u
-telling_map files name counts now Text Is Js ended t u to h = record { named = h.named; failed = h.failed; counted = h.counted; ran = ran_map Is Js ended t u to h.ran }
+    → TellingFailed name Text files.rows counts now × (ReportsTo Is ended t u ⊎ ((fault : Option Fault) × RunsTo fault Is ended u))
+    → TellingFailed name Text files.rows counts now × (ReportsTo Js ended t u ⊎ ((fault : Option Fault) × RunsTo fault Js ended u))
+telling_map files name counts now Text Is Js ended t u to (untold, ran) = (untold, ran_map Is Js ended t u to ran)
 
 created_map : (Is Js : RequestOutcome → Type 0) (files : FilesOf) (name : List ℕ) (counts now : PerName) (t u : Told) → ((r : RequestOutcome) → Is r → Js r) → StoppedCreating Is files name counts now t u → StoppedCreating Js files name counts now t u
 created_map Is Js files name counts now t u to h = by h.runs
   where
     by : ((c : CheckedGraph) × (g : Graph) × (m : Meaning) × Is (Runs c g m)) → StoppedCreating Js files name counts now t u
-    by (c, g, m, is) = record { failed = h.failed; emptied = h.emptied; runs = (c, g, m, to (Runs c g m) is) }
+    by (c, g, m, is) = record { failed = h.failed; empty = h.empty; others = h.others; runs = (c, g, m, to (Runs c g m) is) }
 
 pub devices_map : (cause : Cause) (files : FilesOf) (counts now : PerName) (Text : Type 0) (Is Js : RequestOutcome → Type 0) (ended : Ended) (t u : Told) → ((r : RequestOutcome) → Is r → Js r)
     → DevicesMean cause files counts now Text Is ended t u → DevicesMean cause files counts now Text Js ended t u
@@ -111,8 +105,17 @@ devices_map (C.ReadFailed name) files counts now Text Is Js ended t u to h = h
 devices_map (C.BadArrivals op) files counts now Text Is Js ended t u to h = h
 devices_map C.NoMemory files counts now Text Is Js ended t u to h = h
 
+ends_with : (counted : Bool) (r : RequestOutcome) (cause : Cause) (text : List ℕ) → EndsTelling counted r cause text → EndsWith r cause
+ends_with counted (Reports report c) cause text (ends, e) = ends
+ends_with counted (Runs c g m) cause text (ends, e) = ends
+ends_with counted (BadArrivals c op) cause text (ends, e) = ends
+ends_with counted NoRequest cause text h = h
+ends_with counted (Unreadable file) cause text h = h
+ends_with counted (Refused refusal) cause text h = h
+ends_with counted NotBuilt cause text h = h
+
 text_of_map : (counted : Bool) (Is Js : RequestOutcome → Type 0) (cause : Cause) (text : List ℕ) → ((r : RequestOutcome) → EndsWith r cause → Is r → Js r) → IsTextOf counted Is cause text → IsTextOf counted Js cause text
-text_of_map counted Is Js cause text to (r, is, ends, e) = (r, to r ends is, ends, e)
+text_of_map counted Is Js cause text to (r, is, told) = (r, to r (ends_with counted r cause text told) is, told)
 
 pub text_map : (counted : Bool) (cause : Cause) (Is Js : RequestOutcome → Type 0) (text : List ℕ) → ((r : RequestOutcome) → EndsWith r cause → Is r → Js r) → IsText counted cause Is text → IsText counted cause Js text
 text_map counted C.Done Is Js text to is = text_of_map counted Is Js C.Done text to is
@@ -187,7 +190,7 @@ quiet_stopped (C.WriteFailed name) parts counts now is = tt
 -- ---- records
 
 -- what a record is needed for, by the requests that have one
-pub needs_by : (request : Option Request) (ended : Ended) (t : Told) → ((p file : List ℕ) → request ≡ Some (R.Replay p file) → (is_refused ended.cause ≡ true) ⊎ IsUnread (p ∷ file ∷ []) ended.cause) → NeedsRecord request ended t
+pub needs_by : (request : Option Request) (ended : Ended) (t : Told) → ((p file : List ℕ) → request ≡ Some (R.Replay p file) → ((refusal : Refusal) × (ended.cause ≡ C.Refused refusal)) ⊎ IsUnread (p ∷ file ∷ []) ended.cause) → NeedsRecord request ended t
 needs_by None ended t h = tt
 needs_by (Some (R.Check p)) ended t h = tt
 needs_by (Some (R.Plan p)) ended t h = tt
@@ -196,13 +199,32 @@ needs_by (Some (R.Replay p file)) ended t h = λ fault. h p file refl
 needs_by (Some (R.Simulate p width schedule steps)) ended t h = tt
 needs_by (Some (R.Make name rows start)) ended t h = tt
 
+-- the request was carried out, or what it gave couldn't be written
+pub ended_run : (k : Cause) → IsRun k ⊎ ((name : List ℕ) × (k ≡ C.WriteFailed name)) → is_ended_run k ≡ true
+ended_run k (inl (None, e)) = ap is_ended_run e
+ended_run k (inl (Some f, e)) = ap is_ended_run e
+ended_run k (inr (name, e)) = ap is_ended_run e
+
+-- and back
+pub ended_is : (k : Cause) → is_ended_run k ≡ true → IsRun k ⊎ ((name : List ℕ) × (k ≡ C.WriteFailed name))
+ended_is C.Done e = inl (None, refl)
+ended_is (C.Stopped fault) e = inl (Some fault, refl)
+ended_is (C.WriteFailed name) e = inr (name, refl)
+ended_is C.NotBuilt e = cc
+ended_is C.BadWords e = cc
+ended_is (C.Refused refusal) e = cc
+ended_is (C.OpenFailed name) e = cc
+ended_is (C.ReadFailed name) e = cc
+ended_is (C.BadArrivals op) e = cc
+ended_is C.NoMemory e = cc
+
 -- where no run ended none is followed
 pub follows_none : (request : Option Request) (Is : RequestOutcome → Type 0) (ended : Ended) (t : Told) → is_ended_run ended.cause ≡ false → FollowsRecord request Is ended t
 follows_none None Is ended t e = tt
 follows_none (Some (R.Check p)) Is ended t e = tt
 follows_none (Some (R.Plan p)) Is ended t e = tt
 follows_none (Some (R.Run p options)) Is ended t e = tt
-follows_none (Some (R.Replay p file)) Is ended t e = λ run. absurd (let bad : false ≡ true = sym e ∙ run in cc)
+follows_none (Some (R.Replay p file)) Is ended t e = λ run. absurd (let bad : false ≡ true = sym e ∙ ended_run ended.cause run in cc)
 follows_none (Some (R.Simulate p width schedule steps)) Is ended t e = tt
 follows_none (Some (R.Make name rows start)) Is ended t e = tt
 
@@ -242,7 +264,7 @@ named_first request program of p file e =
 
 -- an answer after which all files are as they were and no count changed
 pub quiet_answer : (told now : Option Told) (request : Option Request) (cause : Cause) (ended : Ended) (counts later : PerName) → ended.cause ≡ cause → IsQuiet cause → IsUnrun cause → is_ended_run cause ≡ false
-    → ((p file : List ℕ) → request ≡ Some (R.Replay p file) → (is_refused cause ≡ true) ⊎ IsUnread (p ∷ file ∷ []) cause) → WhereTold told now TellsSame → NoCountChanged counts later
+    → ((p file : List ℕ) → request ≡ Some (R.Replay p file) → ((refusal : Refusal) × (cause ≡ C.Refused refusal)) ⊎ IsUnread (p ∷ file ∷ []) cause) → WhereTold told now TellsSame → NoCountChanged counts later
     → ((t u : Told) → told ≡ Some t → SameFiles t u → CauseMeans cause (IsOutcome t ended.arrivals request) ended t u)
     → WhereTold told now (Answered request ended counts later ⊥)
 quiet_answer None now request cause ended counts later is other unread none needs same quiet stands = tt
@@ -257,7 +279,7 @@ quiet_answer (Some t) (Some u) request cause ended counts later is other unread 
   stopped = λ parts are. subst (λ (c : Cause). StoppedBy c parts counts later) (sym is) (quiet_stopped cause parts counts later unread);
   whole = λ parts are n named differs. absurd (differs (ap (λ c. c.reading) (quiet n)));
   reads = λ n differs. absurd (differs (ap (λ c. c.reading) (quiet n)));
-  needed = needs_by request ended t (λ p file e. subst (λ (k : Cause). (is_refused k ≡ true) ⊎ IsUnread (p ∷ file ∷ []) k) (sym is) (needs p file e));
+  needed = needs_by request ended t (λ p file e. subst (λ (k : Cause). ((refusal : Refusal) × (k ≡ C.Refused refusal)) ⊎ IsUnread (p ∷ file ∷ []) k) (sym is) (needs p file e));
   followed = follows_none request (IsOutcome t ended.arrivals request) ended t (ap is_ended_run is ∙ none);
   recorded = writes_none request (IsOutcome t ended.arrivals request) ended counts later ⊥ t u (ap is_ended_run is ∙ none) same.holds;
 }
@@ -270,7 +292,7 @@ wanting_answer begun told now request ended counts later is same quiet =
 
 -- no request
 pub words_answer : (told : Option Told) (ended : Ended) (counts : PerName) → ended.cause ≡ C.BadWords → WhereTold told told (Answered None ended counts counts ⊥)
-words_answer told ended counts is = quiet_answer told told None C.BadWords ended counts counts is tt tt refl (λ p file e. cc) (told_again told) (λ n. refl) (λ t u e files. (no_request, files))
+words_answer told ended counts is = quiet_answer told told None C.BadWords ended counts counts is tt tt refl (λ p file e. absurd cc) (told_again told) (λ n. refl) (λ t u e files. (no_request, files))
 
 -- a request that isn't built by its words
 pub not_built_answer : (told : Option Told) (request : Request) (ended : Ended) (counts : PerName) → is_built request ≡ false → ended.cause ≡ C.NotBuilt
@@ -315,7 +337,7 @@ pub refused_answer : (told now : Option Told) (request : Request) (program : Lis
     → IfSome told (λ t. CompiledAt (P.Refused refusal) (t.script program) (file_names request))
     → WhereTold told now TellsSame → NoCountChanged counts later → WhereTold told now (Answered (Some request) ended counts later ⊥)
 refused_answer told now request program refusal ended counts later built of is made same quiet =
-    quiet_answer told now (Some request) (C.Refused refusal) ended counts later is tt tt refl (λ p file e. inl refl) same quiet (λ t u e files. (go t e, files))
+    quiet_answer told now (Some request) (C.Refused refusal) ended counts later is tt tt refl (λ p file e. inl (refusal, refl)) same quiet (λ t u e files. (go t e, files))
   where
     go : (t : Told) → told ≡ Some t → IsOutcome t ended.arrivals (Some request) (Refused refusal)
     go t e =
@@ -382,8 +404,8 @@ whole_only cause request parts program old new t others fails at n named differs
     bad = fails_more 1048576 (most_bytes (Some request) n) (t.script n) (least_bound (Some request) n) (fails n differs)
 
     here : n ≡ program → (cause ≡ C.NoMemory) ⊎ ((cause ≡ C.ReadFailed program) ⊎ ((new program).reading ≡ (old program).reading)) → ReadingAnswered cause (most_bytes (Some request) n) t n
-    here e (inl wanting) = record { fails = bad; answer = inr wanting }
-    here e (inr (inl is)) = record { fails = bad; answer = inl (is ∙ ap (λ (m : List ℕ). C.ReadFailed m) (sym e)) }
+    here e (inl wanting) = (bad, inr wanting)
+    here e (inr (inl is)) = (bad, inl (is ∙ ap (λ (m : List ℕ). C.ReadFailed m) (sym e)))
     here e (inr (inr same)) = absurd (differs (ap (λ (m : List ℕ). (new m).reading) e ∙ same ∙ sym (ap (λ (m : List ℕ). (old m).reading) e)))
 
 -- an answer after which all files are as they were, and the counts changed of the program alone
@@ -451,7 +473,7 @@ follows_told (R.Check p) c ended t program one of quiet accepted h = tt
 follows_told (R.Plan p) c ended t program one of quiet accepted h = tt
 follows_told (R.Run p options) c ended t program one of quiet accepted h = tt
 follows_told (R.Replay p file) c ended t program one of quiet accepted h = λ run x g m is.
-    subst (λ (y : CheckedGraph). Spells y (t.script file).bytes ended.arrivals) (sym (replay_graph t c file x g m (back_found one t ended.arrivals (R.Replay p file) program c (Runs x g m) refl of (record { read = quiet; accepted = accepted }) is))) (h run)
+    subst (λ (y : CheckedGraph). Spells y (t.script file).bytes ended.arrivals) (sym (replay_graph t c file x g m (back_found one t ended.arrivals (R.Replay p file) program c (Runs x g m) refl of (record { read = quiet; accepted = accepted }) is))) (h (ended_run ended.cause run))
 follows_told (R.Simulate p width schedule steps) c ended t program one of quiet accepted h = tt
 follows_told (R.Make name rows start) c ended t program one of quiet accepted h = tt
 
@@ -527,7 +549,7 @@ accepted_answer one parts_one (Some t) (Some s) (Some u) request program c ended
     }
 
 -- the text of what was done
-may_come : (request : Request) (c : CheckedGraph) (arrivals : Arrivals) (counts now : PerName) (r : RequestOutcome) → IsSomeProgram request c → MayBeOutcome request c arrivals counts now r
+may_come : (request : Request) (c : CheckedGraph) (arrivals : Arrivals) (counts now : PerName) (r : RequestOutcome) → IsProgramOf (Some request) c → MayBeOutcome request c arrivals counts now r
     → MayComeTo (Some request) arrivals counts now r
 may_come (R.Check p) c arrivals counts now r from e = subst (MayComeTo (Some (R.Check p)) arrivals counts now) (sym e) from
 may_come (R.Run p options) c arrivals counts now r from (g, m, ran, e) = subst (MayComeTo (Some (R.Run p options)) arrivals counts now) (sym e) (from, ran)
@@ -546,7 +568,7 @@ told_outcome (Some t) (Some s) request program c arrivals r built of made same e
     outcome_of t request program arrivals (Ok c) r built of made.0 made.1 (subst (λ (x : Told). IsAcceptedOutcome request c arrivals x r) (same_told t s same) e)
 
 accepted_text_of : (told mid : Option Told) (request : Request) (program : List ℕ) (c : CheckedGraph) (cause : Cause) (arrivals : Arrivals) (text : List ℕ) (counts now : PerName)
-    → is_built request ≡ true → program_of request ≡ Some program → IsSomeProgram request c
+    → is_built request ≡ true → program_of request ≡ Some program → IsProgramOf (Some request) c
     → IfSome told (λ t. CompiledAt (P.Checked c) (t.script program) (file_names request)) → WhereTold told mid TellsSame
     → IsText (wants_counts (Some request)) cause (IsToldAcceptedOutcome request c arrivals mid counts now) text → IsText (wants_counts (Some request)) cause (IsToldOutcome (Some request) told arrivals counts now) text
 accepted_text_of told mid request program c cause arrivals text counts now built of from made same is =
@@ -554,7 +576,7 @@ accepted_text_of told mid request program c cause arrivals text counts now built
     (λ r ends h. (may_come request c arrivals counts now r from h.0, told_outcome told mid request program c arrivals r built of made same h.1)) is
 
 pub accepted_text : (told mid : Option Told) (request : Request) (program : List ℕ) (c : CheckedGraph) (cause : Cause) (arrivals : Arrivals) (text : Result (List ℕ) NoMemory) (counts between now : PerName)
-    → is_built request ≡ true → program_of request ≡ Some program → IsSomeProgram request c
+    → is_built request ≡ true → program_of request ≡ Some program → IsProgramOf (Some request) c
     → IfSome told (λ t. CompiledAt (P.Checked c) (t.script program) (file_names request)) → WhereTold told mid TellsSame → NoCountChanged counts between
     → IfOk text (IsText (wants_counts (Some request)) cause (IsToldAcceptedOutcome request c arrivals mid between now)) → IfOk text (IsText (wants_counts (Some request)) cause (IsToldOutcome (Some request) told arrivals counts now))
 accepted_text told mid request program c cause arrivals (Ok text) counts between now built of from made same quiet is =
@@ -568,8 +590,8 @@ built_words request cause old new built = λ other. absurd (let clash : true ≡
 
 -- with no memory nothing is decided otherwise
 pub wanting_words : (request : Option Request) (old new : PerName) → NoCountChanged old new → ByWords request C.NoMemory old new
-wanting_words None old new quiet = record { answer = inr refl; counts = quiet }
-wanting_words (Some request) old new quiet = λ other. record { answer = inr refl; counts = quiet }
+wanting_words None old new quiet = (inr refl, quiet)
+wanting_words (Some request) old new quiet = λ other. (inr refl, quiet)
 
 -- what was lent is given back by the first step and by the second
 pub lent_after : (old mid new : ℕ) → (old < 2 ^ 64 - 1 → mid ≡ old) → (mid < 2 ^ 64 - 257 → new ≡ mid) → old < 2 ^ 64 - 257 → new ≡ old

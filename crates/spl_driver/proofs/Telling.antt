@@ -10,9 +10,9 @@ use Rattle.feed_pour.specs.declared.outside.PourAnswer.TheVariants as E
 use Rattle.run_report.specs.declared.cause.Cause.{Cause}
 use Rattle.run_report.specs.declared.cause.Cause.TheVariants as C
 use Rattle.command_line.specs.declared.request.Request.{Request}
-use Rattle.spl_driver.specs.Answer.{IsOr, IsRun, OUT, cause_of}
+use Rattle.spl_driver.specs.Answer.{IsOr, IsRun, cause_of}
 use Rattle.spl_driver.specs.Shown.{TextShown, Shown, ShownBy}
-use Rattle.spl_driver.specs.Texts.{wants_counts, is_run, ToldAs, TextPoured, whole, front, failed, wanting, Pours, PoursText, IsText, IsTextOf, PouredText, Said}
+use Rattle.spl_driver.specs.Texts.{wants_counts, is_run, ToldAs, TextPoured, whole, front, failed, wanting, Pours, PoursText, IsText, IsTextOf, PouredText, Said, OUT}
 use Rattle.spl_driver.specs.Outcome.{RequestOutcome}
 use Rattle.spl_driver.proofs.Showing.{text_shown}
 
@@ -117,7 +117,7 @@ said_poured cause r request Is counts later text old now Failed shows is (front 
     subst (λ (c : Cause). Said c request Is counts later (Some old) now Failed) (sym e) (said_front cause request Is counts later text old now Failed shows is other rises n held)
 said_poured cause r request Is counts later text old now Failed shows is (failed e (fault, run) rises n held) =
     subst (λ (c : Cause). Said c request Is counts later (Some old) now Failed) (sym e)
-    (inr (shows.1 (fault, run) rises, (rises, (cause_of fault, text, text_of_run (wants_counts request) Is cause text fault run is, n, held))))
+    (inr (shows.1 (fault, run) rises, (cause_of fault, text, text_of_run (wants_counts request) Is cause text fault run is, n, held)))
 said_poured cause r request Is counts later text old now Failed shows is (wanting e) = subst (λ (c : Cause). Said c request Is counts later (Some old) now Failed) (sym e) tt
 
 said_nothing : (r : Cause) (request : Option Request) (Is : RequestOutcome → Type 0) (counts later : PerName) (old now : Option (List ℕ)) (Failed : Type 0) → r ≡ C.NoMemory → Said r request Is counts later old now Failed
@@ -130,7 +130,7 @@ shelf_shows cause request counts later Failed h = (wrote, λ run failed. text_sh
   where
     at_write : (name : List ℕ) → Shown (C.WriteFailed name) request counts later ⊥ → ShownBy (C.WriteFailed name) request counts later
     at_write name (inl h) = h
-    at_write name (inr h) = absurd h.failed
+    at_write name (inr h) = absurd h.2.1
 
     wrote : (name : List ℕ) → cause ≡ C.WriteFailed name → ShownBy (C.WriteFailed name) request counts later
     wrote name e = at_write name (subst (λ (c : Cause). Shown c request counts later ⊥) e h)

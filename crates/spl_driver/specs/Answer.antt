@@ -1,13 +1,13 @@
 -- Which answer a request gets, and what each answer means.
-use Rattle.std.specs.Prelude.{◌≡◌, ◌≢◌, ◌-◌, ◌^◌, ◌⊎◌, ◌||◌, min, ℕ, Bool, List, [], ◌∷◌, ◌++◌, codes, map, length, take, false, true, Option, Some, None, ⊤, slice_get}
+use Rattle.std.specs.Prelude.{◌≡◌, ◌≢◌, ◌-◌, ◌^◌, ◌⊎◌, ◌||◌, min, ℕ, Bool, List, [], ◌∷◌, ◌++◌, codes, map, length, take, false, true, Option, Some, None, ⊤, IfSome, IsSomeAnd, option_and_then, slice_get}
 use Rattle.std.specs.List.{All, filter_map}
+use Rattle.std.specs.Option.{option_map, option_map_or}
 use Rattle.arrival_format.specs.ArrivalTexts.{Spells, arrivals_text}
 use Rattle.feed_pour.specs.Counts.{PerName, Rose}
 use Rattle.feed_pour.specs.Contents.{Told}
 use Rattle.spl_value.specs.declared.item.Fault.{Fault}
 use Rattle.spl_value.specs.declared.item.FaultKind.TheVariants as K
 use Rattle.language_model.specs.declared.checked.CheckedClauses.{CheckedClauses}
-use Rattle.language_model.specs.declared.checked.CheckedClauses.TheVariants as A
 use Rattle.stream_model.specs.declared.record.Arrivals.{Arrivals}
 use Rattle.stream_model.specs.declared.record.Counts.{Counts}
 use Rattle.stream_model.specs.declared.record.SinkCount.{SinkCount}
@@ -20,26 +20,37 @@ use Rattle.stream_model.specs.Stages.{out}
 use Rattle.list_engine.specs.Runs.{AreWhole}
 use Rattle.run_report.specs.declared.cause.Cause.{Cause}
 use Rattle.run_report.specs.declared.cause.Cause.TheVariants as C
+use Rattle.run_report.specs.declared.refusal.Refusal.{Refusal}
 use Rattle.command_line.specs.declared.request.Request.{Request}
 use Rattle.command_line.specs.declared.request.Request.TheVariants as R
-use Rattle.check_laws.specs.Files.{is_named, sink_files}
+use Rattle.check_laws.specs.Files.{is_named, sink_file, sink_files, source_file}
 use Rattle.source_rows.specs.Counting.{OnlyRead, OnlyReads, OpeningFailed}
 use Rattle.source_rows.specs.Sources.{ReadsFail}
 use Rattle.spl_driver.specs.Built.{is_built}
-use Rattle.spl_driver.specs.Files.{FilesOf, opens, creates, files_of, whole_files}
-use Rattle.spl_driver.specs.Outcome.{Report, RequestOutcome, NoRequest, Unreadable, Refused, NotBuilt, Reports, BadArrivals, Runs, IsOutcome, ArePartsIn, fails_within, has_fault, has_record_fault}
+use Rattle.spl_driver.specs.Files.{FilesOf, files_of}
+use Rattle.spl_driver.specs.Outcome.{Report, RequestOutcome, NoRequest, Unreadable, Refused, NotBuilt, Reports, BadArrivals, Runs, IsOutcome, ArePartsIn, fails_within, has_record_fault}
 use Rattle.spl_driver.specs.declared.ended.Ended.{Ended}
+
+-- ---- causes
+
+-- the cause is this one, or memory ran out
+abbrev pub IsOr : Cause → Cause → Type 0
+IsOr expected cause = (cause ≡ expected) ⊎ (cause ≡ C.NoMemory)
+
+-- how a run ends that has this fault, or none
+abbrev pub cause_of : Option Fault → Cause
+cause_of fault = option_map_or (λ f. C.Stopped f) fault C.Done
+
+-- the request was carried out; its run ended with a fault or without
+abbrev pub IsRun : Cause → Type 0
+IsRun cause = (fault : Option Fault) × (cause ≡ cause_of fault)
 
 -- ---- a run that was carried out
 
 -- a fact of each sink and its file
-abbrev pub AtSink : (Operator → List ℕ → Type 0) → CheckedClauses → Operator → Type 0
-AtSink P (A.FileSink file) op = P op file
-AtSink P _ op = ⊤
-
 abbrev pub EachSink : (Operator → List ℕ → Type 0) → List Operator → Type 0
 EachSink P [] = ⊤
-EachSink P (op ∷ ops) = AtSink P op.clauses op × EachSink P ops
+EachSink P (op ∷ ops) = IfSome (sink_file op.clauses) (P op) × EachSink P ops
 
 -- the text of a sink in the meaning
 abbrev pub sink_text : Meaning → Operator → List ℕ
@@ -52,16 +63,14 @@ HoldsText m new op file = new.holds file ≡ Some (sink_text m op)
 abbrev pub HoldsPrefix : Meaning → Told → Told → Operator → List ℕ → Type 0
 HoldsPrefix m old new op file = (new.holds file ≡ old.holds file) ⊎ ((n : ℕ) × (new.holds file ≡ Some (take n (sink_text m op))))
 
-abbrev pub tuples_of : Meaning → Operator → ℕ
-tuples_of m op = min (length (out op 0 (m.events op.number))) (2 ^ 64 - 1)
-
-abbrev pub sink_count : Meaning → CheckedClauses → Operator → Option SinkCount
-sink_count m (A.FileSink file) op = Some (record { op = op.number; tuples = tuples_of m op })
-sink_count m _ op = None
+-- how many tuples a sink has, where the operator is one
+abbrev pub sink_count : Meaning → Operator → Option SinkCount
+sink_count m op =
+    option_map (λ file. record { op = op.number; tuples = min (length (out op 0 (m.events op.number))) (2 ^ 64 - 1) }) (sink_file op.clauses)
 
 -- the counts of a run without replicas: the tuples of each sink, in the order of the operators
 abbrev pub counts_of : Graph → Meaning → Counts
-counts_of g m = record { channels = []; sinks = filter_map (λ op. sink_count m op.clauses op) g.ops }
+counts_of g m = record { channels = []; sinks = filter_map (sink_count m) g.ops }
 
 -- the record has a list for each operator with several connections, and each is whole in this meaning
 pub record IsRecordOf (g : Graph) (m : Meaning) (arrivals : Arrivals) : Type 0 where
@@ -106,10 +115,8 @@ CauseMeans C.BadWords Is ended old new = Is NoRequest × SameFiles old new
 CauseMeans (C.Refused refusal) Is ended old new = Is (Refused refusal) × SameFiles old new
 CauseMeans C.NotBuilt Is ended old new = Is NotBuilt × SameFiles old new
 CauseMeans (C.BadArrivals op) Is ended old new = ((c : CheckedGraph) × Is (BadArrivals c op)) × SameFiles old new
-CauseMeans (C.OpenFailed name) Is ended old new = (result : RequestOutcome) → Is result → Begun result old new
 CauseMeans (C.ReadFailed name) Is ended old new = SameFiles old new
-CauseMeans (C.WriteFailed name) Is ended old new = (result : RequestOutcome) → Is result → Begun result old new
-CauseMeans C.NoMemory Is ended old new = (result : RequestOutcome) → Is result → Begun result old new
+CauseMeans _ Is ended old new = (result : RequestOutcome) → Is result → Begun result old new
 
 -- ---- which device failed
 
@@ -127,8 +134,7 @@ pub record ReadingFailed (files : FilesOf) (name : List ℕ) (old new : PerName)
 -- A file that is created couldn't be. All files that are opened were, and nothing was counted of those that are created after it.
 pub record CreatingFailed (files : FilesOf) (name : List ℕ) (old new : PerName) : Type 0 where
   pub before : List (List ℕ)
-  pub behind : List (List ℕ)
-  pub order : files.created ≡ before ++ name ∷ behind
+  pub order : (behind : List (List ℕ)) × (files.created ≡ before ++ name ∷ behind)
   pub rose : Rose (old name).creating (new name).creating
   pub later : (n : List ℕ) → is_named (files.opened ++ before) n ≡ false → n ≢ name → new n ≡ old n
   pub others : (n : List ℕ) → is_named before n ≡ false → n ≢ name → OnlyRead (old n) (new n)
@@ -138,13 +144,11 @@ pub record CreatingFailed (files : FilesOf) (name : List ℕ) (old new : PerName
 -- A file that is created couldn't be written or finished, and is the first such. All files were opened and created.
 pub record WritingFailed (files : FilesOf) (name : List ℕ) (old new : PerName) : Type 0 where
   pub before : List (List ℕ)
-  pub behind : List (List ℕ)
-  pub order : files.created ≡ before ++ name ∷ behind
+  pub order : (behind : List (List ℕ)) × (files.created ≡ before ++ name ∷ behind)
   pub rose : Rose (old name).writing (new name).writing
   pub first : All (λ n. new n ≡ old n) before
   pub others : (n : List ℕ) → is_named files.created n ≡ false → OnlyRead (old n) (new n)
-  pub creating : (n : List ℕ) → (new n).creating ≡ (old n).creating
-  pub opening : (n : List ℕ) → (new n).opening ≡ (old n).opening
+  pub made : (n : List ℕ) → ((new n).creating ≡ (old n).creating) × ((new n).opening ≡ (old n).opening)
 
 -- what the counts show of each cause
 abbrev pub DevicesShow : Cause → FilesOf → PerName → PerName → Type 0
@@ -159,29 +163,19 @@ DevicesShow _ files old new = NoCountChanged old new
 
 -- ---- a run that stops at a read that failed
 
--- the operator with this number is a source, and the count of reading of its file rose
-pub record SourceUnread (parts : List CheckedClauses) (op : ℕ) (old new : PerName) : Type 0 where
-  pub file : List ℕ
-  pub strict : Bool
-  pub source : slice_get parts op ≡ Some (A.FileSource file strict)
-  pub rose : Rose (old file).reading (new file).reading
-
--- that is so of the operator that a fault names, where the fault is a read that failed
+-- where a fault is a read that failed, the operator that it names is a source, and the count of reading of its file rose
 abbrev pub StoppedBy : Cause → List CheckedClauses → PerName → PerName → Type 0
-StoppedBy (C.Stopped fault) parts old new = fault.kind ≡ K.ReadFailed → SourceUnread parts fault.op old new
+StoppedBy (C.Stopped fault) parts old new =
+    fault.kind ≡ K.ReadFailed → IsSomeAnd (option_and_then source_file (slice_get parts fault.op)) (λ n. Rose (old n).reading (new n).reading)
 StoppedBy _ parts old new = ⊤
 
 -- ---- and what the files hold then
 
--- these files are empty, and the others as they were
-pub record Emptied (files : List (List ℕ)) (old new : Told) : Type 0 where
-  pub empty : All (λ n. new.holds n ≡ Some []) files
-  pub others : (n : List ℕ) → is_named files n ≡ false → new.holds n ≡ old.holds n
-
--- A file that is created couldn't be: the request runs a graph, and those before it are empty.
+-- A file that is created couldn't be: the request runs a graph, those before it are empty, and the others as they were.
 pub record StoppedCreating (Is : RequestOutcome → Type 0) (files : FilesOf) (name : List ℕ) (counts now : PerName) (old new : Told) : Type 0 where
   pub failed : CreatingFailed files name counts now
-  pub emptied : Emptied failed.before old new
+  pub empty : All (λ n. new.holds n ≡ Some []) failed.before
+  pub others : (n : List ℕ) → is_named failed.before n ≡ false → new.holds n ≡ old.holds n
   pub runs : (c : CheckedGraph) × (g : Graph) × (m : Meaning) × Is (Runs c g m)
 
 -- the file holds the sink's text, and nothing was counted of it; or its count of writing rose, and it holds a prefix
@@ -190,24 +184,14 @@ HoldsUnlessFailed m counts now new op file =
     ((now file ≡ counts file) × HoldsText m new op file) ⊎ (Rose (counts file).writing (now file).writing × ((n : ℕ) × (new.holds file ≡ Some (take n (sink_text m op)))))
 
 -- The run of a graph ended, but some file that it created wasn't written or finished. The sinks' files of which nothing was counted hold their texts.
-pub record WroteOthers (Is : RequestOutcome → Type 0) (counts now : PerName) (ended : Ended) (new : Told) : Type 0 where
-  pub checked : CheckedGraph
-  pub graph : Graph
-  pub meaning : Meaning
-  pub comes : Is (Runs checked graph meaning)
-  pub texts : EachSink (HoldsUnlessFailed meaning counts now new) graph.ops
-  pub recorded : IsRecordOf graph meaning ended.arrivals
+abbrev pub WroteOthers : (RequestOutcome → Type 0) → PerName → PerName → Ended → Told → Type 0
+WroteOthers Is counts now ended new =
+    (c : CheckedGraph) × (g : Graph) × (m : Meaning)
+    × Is (Runs c g m) × EachSink (HoldsUnlessFailed m counts now new) g.ops × IsRecordOf g m ended.arrivals
 
--- the name that means standard output
-abbrev pub OUT : List ℕ
-OUT = codes "-"
-
--- The text of a request that was carried out couldn't be told.
-pub record TellingFailed (files : FilesOf) (name : List ℕ) (counts now : PerName) (TextFailed : Type 0) (Is : RequestOutcome → Type 0) (ended : Ended) (old new : Told) : Type 0 where
-  pub named : name ≡ OUT
-  pub failed : TextFailed
-  pub counted : OnlyReads files.rows counts now
-  pub ran : ReportsTo Is ended old new ⊎ ((fault : Option Fault) × RunsTo fault Is ended new)
+-- The text of a request that was carried out couldn't be told. Its name is that of standard output, and nothing was counted but reading.
+abbrev pub TellingFailed : List ℕ → Type 0 → List (List ℕ) → PerName → PerName → Type 0
+TellingFailed name TextFailed rows old new = (name ≡ codes "-") × TextFailed × OnlyReads rows old new
 
 -- What the counts and the files show of each cause: what was created, where a file couldn't be; what was written, where one couldn't be; and
 -- else what the counts show.
@@ -215,46 +199,31 @@ abbrev pub DevicesMean : Cause → FilesOf → PerName → PerName → Type 0 �
 DevicesMean (C.OpenFailed name) files counts now TextFailed Is ended old new =
     (OpeningFailed files.opened name counts now × SameFiles old new) ⊎ StoppedCreating Is files name counts now old new
 DevicesMean (C.WriteFailed name) files counts now TextFailed Is ended old new =
-    (WritingFailed files name counts now × WroteOthers Is counts now ended new) ⊎ TellingFailed files name counts now TextFailed Is ended old new
+    (WritingFailed files name counts now × WroteOthers Is counts now ended new)
+    ⊎ (TellingFailed name TextFailed files.rows counts now × (ReportsTo Is ended old new ⊎ ((fault : Option Fault) × RunsTo fault Is ended new)))
 DevicesMean cause files counts now TextFailed Is ended old new = DevicesShow cause files counts now
 
--- the reader of a file that is read as a whole fails where its count of reading changes
-abbrev pub WholeFails : PerName → PerName → Told → Type 0
-WholeFails counts now old = (n : List ℕ) → (now n).reading ≢ (counts n).reading → has_fault (old.script n) ≡ true
-
--- the count of reading changed of a file that is read as a whole: its reader fails within its bound, and the answer names it, or memory ran out
-pub record ReadingAnswered (cause : Cause) (most : ℕ) (old : Told) (name : List ℕ) : Type 0 where
-  pub fails : fails_within most (old.script name) ≡ true
-  pub answer : (cause ≡ C.ReadFailed name) ⊎ (cause ≡ C.NoMemory)
-
+-- where the count of reading changed of a file that is read as a whole, its reader fails within its bound, and the answer names it, or memory ran out
 abbrev pub WholeReads : Cause → FilesOf → PerName → PerName → Told → Type 0
-WholeReads cause files counts now old = (n : List ℕ) → is_named files.rows n ≡ false → (now n).reading ≢ (counts n).reading → ReadingAnswered cause (files.most n) old n
-
--- the request was carried out, or it was run and what it gave couldn't be written
-abbrev pub is_ended_run : Cause → Bool
-is_ended_run C.Done = true
-is_ended_run (C.Stopped fault) = true
-is_ended_run (C.WriteFailed name) = true
-is_ended_run _ = false
+WholeReads cause files counts now old =
+    (n : List ℕ) → is_named files.rows n ≡ false → (now n).reading ≢ (counts n).reading
+    → (fails_within (files.most n) (old.script n) ≡ true) × IsOr (C.ReadFailed n) cause
 
 -- one of these files, which are read as a whole, couldn't be opened or read, or memory ran out
 abbrev pub IsUnread : List (List ℕ) → Cause → Type 0
 IsUnread whole cause = (cause ≡ C.NoMemory) ⊎ ((name : List ℕ) × (is_named whole name ≡ true) × ((cause ≡ C.OpenFailed name) ⊎ (cause ≡ C.ReadFailed name)))
 
-abbrev pub is_refused : Cause → Bool
-is_refused (C.Refused refusal) = true
-is_refused _ = false
-
 -- a replay whose record can't be read ends by that, or since its program can't be read or is refused
 abbrev pub NeedsRecord : Option Request → Ended → Told → Type 0
 NeedsRecord (Some (R.Replay program file)) ended old =
-    has_record_fault (old.script file) ≡ true → (is_refused ended.cause ≡ true) ⊎ IsUnread (program ∷ file ∷ []) ended.cause
+    has_record_fault (old.script file) ≡ true → ((refusal : Refusal) × (ended.cause ≡ C.Refused refusal)) ⊎ IsUnread (program ∷ file ∷ []) ended.cause
 NeedsRecord _ ended old = ⊤
 
--- a replay returns the record that its file spells for its program
+-- a replay that was carried out, or of which what it gave couldn't be written, returns the record that its file spells for its program
 abbrev pub FollowsRecord : Option Request → (RequestOutcome → Type 0) → Ended → Told → Type 0
 FollowsRecord (Some (R.Replay program file)) Is ended old =
-    is_ended_run ended.cause ≡ true → (c : CheckedGraph) (g : Graph) (m : Meaning) → Is (Runs c g m) → Spells c (old.script file).bytes ended.arrivals
+    IsRun ended.cause ⊎ ((name : List ℕ) × (ended.cause ≡ C.WriteFailed name))
+    → (c : CheckedGraph) (g : Graph) (m : Meaning) → Is (Runs c g m) → Spells c (old.script file).bytes ended.arrivals
 FollowsRecord _ Is ended old = ⊤
 
 -- ---- the record that a run writes
@@ -266,7 +235,7 @@ pub data RecordUnwritten (name : List ℕ) (parts : List CheckedClauses) (file t
       → RecordUnwritten name parts file text counts now TextFailed Sinks new
   of_record : name ≡ file → Rose (counts file).writing (now file).writing → Sinks → (n : ℕ) → new.holds file ≡ Some (take n text)
       → RecordUnwritten name parts file text counts now TextFailed Sinks new
-  of_telling : name ≡ OUT → TextFailed → ((n : List ℕ) → (now n).writing ≡ (counts n).writing) → Sinks → new.holds file ≡ Some text
+  of_telling : name ≡ codes "-" → TextFailed → ((n : List ℕ) → (now n).writing ≡ (counts n).writing) → Sinks → new.holds file ≡ Some text
       → RecordUnwritten name parts file text counts now TextFailed Sinks new
 
 -- What this file holds, into which a run writes its record, by how the run ends: the record's text, where the run was carried out, beside the texts
@@ -287,17 +256,19 @@ WritesRecord (Some (R.Run program options)) Is ended counts now TextFailed old n
     → RecordHolds ended.cause c.parts file (arrivals_text c ended.arrivals) counts now TextFailed (EachSink (HoldsText m new) g.ops) old new
 WritesRecord _ Is ended counts now TextFailed old new = ⊤
 
+-- a fact of the files of the request, by the operators of its program
+abbrev pub ForFiles : Told → Option Request → (FilesOf → Type 0) → Type 0
+ForFiles told request P = (parts : List CheckedClauses) → ArePartsIn told request parts → P (files_of request parts)
+
 -- the answer to a request at a shelf that tells its files, where the count of the text's pour rose or not
 pub record Answered (request : Option Request) (ended : Ended) (counts now : PerName) (TextFailed : Type 0) (old new : Told) : Type 0 where
   pub means : CauseMeans ended.cause (IsOutcome old ended.arrivals request) ended old new
-  pub others : (parts : List CheckedClauses) → ArePartsIn old request parts → (n : List ℕ) → is_named (creates request parts) n ≡ false → new.holds n ≡ old.holds n
-  pub scripts : (parts : List CheckedClauses) → ArePartsIn old request parts → (n : List ℕ) → is_named (creates request parts) n ≡ false → new.script n ≡ old.script n
-  pub counted : (parts : List CheckedClauses) → ArePartsIn old request parts → (n : List ℕ)
-      → (is_named (opens request parts) n || is_named (creates request parts) n) ≡ false → now n ≡ counts n
-  pub device : (parts : List CheckedClauses) → ArePartsIn old request parts
-      → DevicesMean ended.cause (files_of request parts) counts now TextFailed (IsOutcome old ended.arrivals request) ended old new
+  pub others : ForFiles old request (λ files. (n : List ℕ) → is_named files.created n ≡ false → new.holds n ≡ old.holds n)
+  pub scripts : ForFiles old request (λ files. (n : List ℕ) → is_named files.created n ≡ false → new.script n ≡ old.script n)
+  pub counted : ForFiles old request (λ files. (n : List ℕ) → (is_named files.opened n || is_named files.created n) ≡ false → now n ≡ counts n)
+  pub device : ForFiles old request (λ files. DevicesMean ended.cause files counts now TextFailed (IsOutcome old ended.arrivals request) ended old new)
   pub stopped : (parts : List CheckedClauses) → ArePartsIn old request parts → StoppedBy ended.cause parts counts now
-  pub whole : (parts : List CheckedClauses) → ArePartsIn old request parts → WholeReads ended.cause (files_of request parts) counts now old
+  pub whole : ForFiles old request (λ files. WholeReads ended.cause files counts now old)
   pub reads : ReadsFail counts now old
   pub needed : NeedsRecord request ended old
   pub followed : FollowsRecord request (IsOutcome old ended.arrivals request) ended old
@@ -307,22 +278,13 @@ pub record Answered (request : Option Request) (ended : Ended) (counts now : Per
 
 -- the request asks for what is told of a program that isn't run
 abbrev pub is_report : Option Request → Bool
-is_report None = false
 is_report (Some (R.Check program)) = true
 is_report (Some (R.Plan program)) = true
-is_report (Some _) = false
-
-abbrev pub is_bad_arrivals : Cause → Bool
-is_bad_arrivals (C.BadArrivals op) = true
-is_bad_arrivals _ = false
-
-abbrev pub is_replay : Option Request → Bool
-is_replay (Some (R.Replay program arrivals)) = true
-is_replay _ = false
+is_report _ = false
 
 -- such a request ends with no fault, and is built; and a replay alone has a record that may be bad
 abbrev pub MayBe : Option Request → Cause → Type 0
-MayBe request (C.BadArrivals op) = is_replay request ≡ true
+MayBe request (C.BadArrivals op) = (program file : List ℕ) × (request ≡ Some (R.Replay program file))
 MayBe request (C.Stopped fault) = is_report request ≡ false
 MayBe request C.NotBuilt = is_report request ≡ false
 MayBe request _ = ⊤
@@ -342,18 +304,6 @@ status_of C.NoMemory = 9
 status_of C.NotBuilt = 13
 
 -- ---- completeness
-
-abbrev pub IsOr : Cause → Cause → Type 0
-IsOr expected cause = (cause ≡ expected) ⊎ (cause ≡ C.NoMemory)
-
--- how a run ends that has this fault, or none
-abbrev pub cause_of : Option Fault → Cause
-cause_of None = C.Done
-cause_of (Some fault) = C.Stopped fault
-
--- the request was carried out; its run ended with a fault or without
-abbrev pub IsRun : Cause → Type 0
-IsRun cause = (fault : Option Fault) × (cause ≡ cause_of fault)
 
 -- a count rose of opening a file that is opened, of reading one that is read as a whole, or of creating or writing one that is created
 pub data DeviceFailed (files : FilesOf) (old new : PerName) : Type 0 where
@@ -375,15 +325,10 @@ IsAnswer (Runs c g m) whole Failed TextFailed cause = (Failed → ⊥) → (Text
 -- whatever the outcome of the request
 abbrev pub IsComplete : Option Request → Ended → PerName → PerName → Type 0 → Told → Type 0
 IsComplete request ended counts now TextFailed told =
-    (result : RequestOutcome) → IsOutcome told ended.arrivals request result → (parts : List CheckedClauses) → ArePartsIn told request parts
-    → IsAnswer result (whole_files request) (DeviceFailed (files_of request parts) counts now) TextFailed ended.cause
-
--- the cause is this one, or memory ran out, and nothing was touched
-pub record Untouched (expected cause : Cause) (old new : PerName) : Type 0 where
-  pub answer : IsOr expected cause
-  pub counts : NoCountChanged old new
+    (result : RequestOutcome) → IsOutcome told ended.arrivals request result
+    → ForFiles told request (λ files. IsAnswer result files.whole (DeviceFailed files counts now) TextFailed ended.cause)
 
 -- the words alone decide that there is no request, or that it isn't built
 abbrev pub ByWords : Option Request → Cause → PerName → PerName → Type 0
-ByWords None cause old new = Untouched C.BadWords cause old new
-ByWords (Some request) cause old new = is_built request ≡ false → Untouched C.NotBuilt cause old new
+ByWords None cause old new = IsOr C.BadWords cause × NoCountChanged old new
+ByWords (Some request) cause old new = is_built request ≡ false → IsOr C.NotBuilt cause × NoCountChanged old new

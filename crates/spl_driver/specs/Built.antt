@@ -1,21 +1,16 @@
 -- Which requests are carried out today.
-use Rattle.std.specs.Prelude.{Bool, true, false, not, ◌&&◌, Option, Some, None}
+use Rattle.std.specs.Prelude.{Bool, true, false, ◌&&◌, is_none}
 use Rattle.command_line.specs.declared.request.Request.{Request}
 use Rattle.command_line.specs.declared.request.Request.TheVariants as R
 use Rattle.command_line.specs.declared.request.RunOptions.{RunOptions}
 
-abbrev pub is_given : {A : Type 0} → Option A → Bool
-is_given None = false
-is_given (Some x) = true
-
 -- no width, workers or capacity are given
 abbrev pub is_plain : RunOptions → Bool
-is_plain options = not (is_given options.width) && (not (is_given options.workers) && not (is_given options.capacity))
+is_plain options = is_none options.width && (is_none options.workers && is_none options.capacity)
 
 -- `check`, `plan`, `replay`, and `run` with no options but `--arrivals` and `--counts`
 abbrev pub is_built : Request → Bool
-is_built (R.Check program) = true
-is_built (R.Plan program) = true
 is_built (R.Run program options) = is_plain options
-is_built (R.Replay program arrivals) = true
-is_built _ = false
+is_built (R.Simulate program width schedule steps) = false
+is_built (R.Make name rows start) = false
+is_built _ = true

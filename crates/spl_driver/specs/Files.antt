@@ -1,37 +1,26 @@
 -- The files that a request opens and creates, by the clauses of the operators of its program.
-use Rattle.std.specs.Prelude.{◌^◌, ℕ, List, [], ◌∷◌, ◌++◌, if◌then◌else◌, Option, Some, None, Result, Ok, Err}
+use Rattle.std.specs.Prelude.{◌^◌, ℕ, List, [], ◌∷◌, ◌++◌, if◌then◌else◌, Option, Some, None, Result, slice_get}
+use Rattle.std.specs.Result.{result_ok}
+use Rattle.std.specs.Option.{option_map_or, option_to_list}
 use Rattle.std.specs.Str.{bytes_eq}
 use Rattle.language_model.specs.declared.checked.CheckedClauses.{CheckedClauses}
 use Rattle.language_model.specs.Accepted.{ProgramRefusal}
 use Rattle.language_model.specs.CheckedGraph.{CheckedGraph}
 use Rattle.command_line.specs.declared.request.Request.{Request}
 use Rattle.command_line.specs.declared.request.Request.TheVariants as R
+use Rattle.command_line.specs.Request.{file_names}
 use Rattle.check_laws.specs.Files.{source_files, sink_files}
 
--- the file of a request's program
+-- the file of a request's program, which is the first of the files of its command line
 abbrev pub program_of : Request → Option (List ℕ)
-program_of (R.Check program) = Some program
-program_of (R.Plan program) = Some program
-program_of (R.Run program options) = Some program
-program_of (R.Replay program arrivals) = Some program
-program_of (R.Simulate program width schedule steps) = Some program
-program_of (R.Make name rows start) = None
+program_of request = slice_get (file_names request) 0
 
 -- the operators of an accepted program; those of another one are none
 abbrev pub parts_of : Result CheckedGraph ProgramRefusal → List CheckedClauses
-parts_of (Ok c) = c.parts
-parts_of (Err refusal) = []
-
-abbrev pub if_given : Option (List ℕ) → List (List ℕ)
-if_given None = []
-if_given (Some name) = name ∷ []
-
--- names of files that a request has, with the clauses of the operators of its program
-abbrev pub FileNames : Type 0
-FileNames = Option Request → List CheckedClauses → List (List ℕ)
+parts_of found = option_map_or (λ c. c.parts) (result_ok found) []
 
 -- the files of the sources, where they are run, which are read row by row
-abbrev pub row_files : FileNames
+abbrev pub row_files : Option Request → List CheckedClauses → List (List ℕ)
 row_files (Some (R.Run program options)) parts = source_files parts
 row_files (Some (R.Replay program arrivals)) parts = source_files parts
 row_files (Some (R.Simulate program width schedule steps)) parts = source_files parts
@@ -41,15 +30,15 @@ row_files _ parts = []
 abbrev pub whole_files : Option Request → List (List ℕ)
 whole_files None = []
 whole_files (Some (R.Replay program arrivals)) = program ∷ arrivals ∷ []
-whole_files (Some request) = if_given (program_of request)
+whole_files (Some request) = option_to_list (program_of request)
 
 -- the files that are opened, each of which is read to its end
-abbrev pub opens : FileNames
+abbrev pub opens : Option Request → List CheckedClauses → List (List ℕ)
 opens request parts = whole_files request ++ row_files request parts
 
 -- the files of the sinks where they are run, a record that is written, and a file that is made
-abbrev pub creates : FileNames
-creates (Some (R.Run program options)) parts = sink_files parts ++ if_given options.arrivals
+abbrev pub creates : Option Request → List CheckedClauses → List (List ℕ)
+creates (Some (R.Run program options)) parts = sink_files parts ++ option_to_list options.arrivals
 creates (Some (R.Replay program arrivals)) parts = sink_files parts
 creates (Some (R.Simulate program width schedule steps)) parts = sink_files parts
 creates (Some (R.Make name rows start)) parts = name ∷ []

@@ -1,5 +1,5 @@
 -- The outcome of a request, with ample memory and devices that give what the shelf tells.
-use Rattle.std.specs.Prelude.{◌≡◌, ◌^◌, ℕ, ◌&&◌, nat_le, List, [], length, Bool, true, false, Option, Some, None, Result, Ok, Err}
+use Rattle.std.specs.Prelude.{◌≡◌, ◌^◌, ℕ, ◌&&◌, nat_le, List, [], ◌∷◌, length, Bool, true, false, Option, Some, None, Result, Ok, Err, IsSomeAnd, option_and_then}
 use Rattle.spl_value.specs.Script.{Script}
 use Rattle.feed_pour.specs.Contents.{Told}
 use Rattle.language_model.specs.declared.checked.CheckedClauses.{CheckedClauses}
@@ -69,9 +69,9 @@ pub record IsFound (told : Told) (program : List ℕ) (names : List (List ℕ)) 
   pub read : has_fault (told.script program) ≡ false
   pub accepted : IsAccepted (told.script program).bytes names found
 
--- a program of some bytes is accepted with this graph
-abbrev pub IsSomeProgram : Request → CheckedGraph → Type 0
-IsSomeProgram request c = (bytes : List ℕ) × IsAccepted bytes (file_names request) (Ok c)
+-- the request has a program, and one of some bytes is accepted with this graph
+abbrev pub IsProgramOf : Option Request → CheckedGraph → Type 0
+IsProgramOf request c = IsSomeAnd request (λ r. (bytes : List ℕ) × IsAccepted bytes (file_names r) (Ok c))
 
 -- one of some bytes has this refusal
 abbrev pub IsSomeRefusal : Request → Refusal → Type 0
@@ -100,9 +100,9 @@ pub data IsOutcome (told : Told) (arrivals : Arrivals) : Option Request → Requ
       → IsOutcome told arrivals (Some request) (Unreadable program)
   refused : (request : Request) (program : List ℕ) (refusal : ProgramRefusal) → is_built request ≡ true → program_of request ≡ Some program
       → IsFound told program (file_names request) (Err refusal) → IsOutcome told arrivals (Some request) (Refused (refusal_of refusal))
-  checks : (program : List ℕ) (c : CheckedGraph) → IsFound told program (file_names (R.Check program)) (Ok c)
+  checks : (program : List ℕ) (c : CheckedGraph) → IsFound told program (program ∷ []) (Ok c)
       → IsOutcome told arrivals (Some (R.Check program)) (Reports OfSize c)
-  plans : (program : List ℕ) (c : CheckedGraph) → IsFound told program (file_names (R.Plan program)) (Ok c)
+  plans : (program : List ℕ) (c : CheckedGraph) → IsFound told program (program ∷ []) (Ok c)
       → IsOutcome told arrivals (Some (R.Plan program)) (Reports OfPlan c)
   runs : (program : List ℕ) (options : RunOptions) (c : CheckedGraph) → is_plain options ≡ true → IsFound told program (file_names (R.Run program options)) (Ok c)
       → IsOutcome told arrivals (Some (R.Run program options)) (run_outcome c told arrivals)
@@ -113,8 +113,7 @@ pub data IsOutcome (told : Told) (arrivals : Arrivals) : Option Request → Requ
 
 -- The clauses of the operators of the request's program: none where there is no program, where it can't be read, or where it isn't accepted.
 pub data ArePartsIn (told : Told) : Option Request → List CheckedClauses → Type 0 where
-  of_no_request : ArePartsIn told None []
-  of_no_program : (request : Request) → program_of request ≡ None → ArePartsIn told (Some request) []
+  of_no_program : (request : Option Request) → option_and_then program_of request ≡ None → ArePartsIn told request []
   of_unreadable : (request : Request) (program : List ℕ) → program_of request ≡ Some program → has_fault (told.script program) ≡ true → ArePartsIn told (Some request) []
   of_program : (request : Request) (program : List ℕ) (found : Result CheckedGraph ProgramRefusal) → program_of request ≡ Some program
       → IsFound told program (file_names request) found → ArePartsIn told (Some request) (parts_of found)

@@ -1,5 +1,5 @@
 -- What each answer shows at every shelf, also at one that tells nothing: of the counts of faults, and of the run.
-use Rattle.std.specs.Prelude.{◌≡◌, ◌≢◌, ◌⊎◌, ◌||◌, ℕ, List, [], false, true, Option, Some, None, ⊤}
+use Rattle.std.specs.Prelude.{◌≡◌, ◌≢◌, ◌⊎◌, ◌||◌, ℕ, List, [], false, true, Option, Some, None, ⊤, IfSome, IsSomeAnd}
 use Rattle.spl_value.specs.declared.item.Fault.{Fault}
 use Rattle.spl_value.specs.declared.item.Item.{Item}
 use Rattle.feed_pour.specs.Counts.{PerName}
@@ -18,18 +18,13 @@ use Rattle.run_report.specs.declared.cause.Cause.{Cause}
 use Rattle.run_report.specs.declared.cause.Cause.TheVariants as C
 use Rattle.command_line.specs.declared.request.Request.{Request}
 use Rattle.check_laws.specs.Files.{is_named}
-use Rattle.spl_driver.specs.Answer.{DevicesShow, IsRecordOf, OUT, NoCountChanged, StoppedBy, counts_of, is_report, uncounted}
+use Rattle.spl_driver.specs.Answer.{DevicesShow, IsOr, IsRecordOf, NoCountChanged, StoppedBy, TellingFailed, counts_of, is_report, uncounted}
 use Rattle.spl_driver.specs.Built.{is_built}
 use Rattle.spl_driver.specs.Files.{creates, files_of, opens, row_files}
-use Rattle.spl_driver.specs.Outcome.{IsSomeProgram, IsSomeRefusal}
+use Rattle.spl_driver.specs.Outcome.{IsProgramOf, IsSomeRefusal}
 use Rattle.spl_driver.specs.declared.ended.Ended.{Ended}
 
 -- ---- the program
-
--- the request has a program, and one of some bytes is accepted with this graph
-abbrev pub IsProgramOf : Option Request → CheckedGraph → Type 0
-IsProgramOf None c = ⊥
-IsProgramOf (Some request) c = IsSomeProgram request c
 
 -- the operators of such a program, or none
 abbrev pub ArePartsOf : Option Request → List CheckedClauses → Type 0
@@ -37,19 +32,15 @@ ArePartsOf request parts = (parts ≡ []) ⊎ ((c : CheckedGraph) × IsProgramOf
 
 -- a record isn't whole for this operator in the meaning of the graph for some closed rows of its sources; of one that isn't spelled nothing is said
 abbrev pub IsBadFor : CheckedGraph → Option ℕ → Type 0
-IsBadFor c None = ⊤
-IsBadFor c (Some n) =
+IsBadFor c op = IfSome op (λ n.
     (g : Graph) × (rows : List (List Item)) × (arrivals : Arrivals) × (graph_of c ≡ g) × RowsFit g rows
-    × IsFirstNotWhole g (meaning g (rows_at rows) (entries_in arrivals.lists)) (entries_in arrivals.lists) n
+    × IsFirstNotWhole g (meaning g (rows_at rows) (entries_in arrivals.lists)) (entries_in arrivals.lists) n)
 
 -- why a request isn't carried out: its program has this refusal, its words ask for what isn't built, or its record is bad
 abbrev pub IsReason : Cause → Option Request → Type 0
-IsReason (C.Refused refusal) None = ⊥
-IsReason (C.Refused refusal) (Some request) = IsSomeRefusal request refusal
-IsReason C.NotBuilt None = ⊥
-IsReason C.NotBuilt (Some request) = is_built request ≡ false
-IsReason (C.BadArrivals op) None = ⊥
-IsReason (C.BadArrivals op) (Some request) = (c : CheckedGraph) × IsSomeProgram request c × IsBadFor c op
+IsReason (C.Refused refusal) request = IsSomeAnd request (λ r. IsSomeRefusal r refusal)
+IsReason C.NotBuilt request = IsSomeAnd request (λ r. is_built r ≡ false)
+IsReason (C.BadArrivals op) request = (c : CheckedGraph) × IsProgramOf request c × IsBadFor c op
 IsReason _ request = ⊤
 
 -- ---- the counts of faults
@@ -62,15 +53,12 @@ pub record ShownBy (cause : Cause) (request : Option Request) (old new : PerName
   pub device : DevicesShow cause (files_of request parts) old new
   pub stopped : StoppedBy cause parts old new
   pub others : (n : List ℕ) → (is_named (opens request parts) n || is_named (creates request parts) n) ≡ false → new n ≡ old n
-  pub reading : (n : List ℕ) → is_named (row_files request parts) n ≡ false → (new n).reading ≢ (old n).reading → (cause ≡ C.ReadFailed n) ⊎ (cause ≡ C.NoMemory)
+  pub reading : (n : List ℕ) → is_named (row_files request parts) n ≡ false → (new n).reading ≢ (old n).reading → IsOr (C.ReadFailed n) cause
 
 -- the text couldn't be told of a request that was carried out
-pub record TextShown (name : List ℕ) (request : Option Request) (old new : PerName) (TextFailed : Type 0) : Type 0 where
-  pub named : name ≡ OUT
-  pub failed : TextFailed
-  pub parts : List CheckedClauses
-  pub are : ArePartsOf request parts
-  pub counted : OnlyReads (row_files request parts) old new
+abbrev pub TextShown : List ℕ → Option Request → PerName → PerName → Type 0 → Type 0
+TextShown name request old new TextFailed =
+    (parts : List CheckedClauses) × ArePartsOf request parts × TellingFailed name TextFailed (row_files request parts) old new
 
 abbrev pub Shown : Cause → Option Request → PerName → PerName → Type 0 → Type 0
 Shown C.BadWords request old new TextFailed = (request ≡ None) × NoCountChanged old new
@@ -112,12 +100,11 @@ RunShown (C.WriteFailed name) Program Alone ended counts now = (Alone × Nothing
 RunShown C.NoMemory Program Alone ended counts now = (ended.arrivals.lists ≡ []) ⊎ Ran Program ended counts now
 RunShown _ Program Alone ended counts now = NothingRan ended
 
--- the request runs a program with this graph; it asks for what is told of one
+-- the request runs a program with this graph
 abbrev pub IsRunProgram : Option Request → CheckedGraph → Type 0
 IsRunProgram request c = (is_report request ≡ false) × IsProgramOf request c
 
-abbrev pub IsReport : Option Request → Type 0
-IsReport request = (is_report request ≡ true) × ((c : CheckedGraph) × IsProgramOf request c)
-
+-- what ran, or the request asks for what is told of a program
 abbrev pub RanShown : Cause → Option Request → Ended → PerName → PerName → Type 0
-RanShown cause request ended counts now = RunShown cause (IsRunProgram request) (IsReport request) ended counts now
+RanShown cause request ended counts now =
+    RunShown cause (IsRunProgram request) ((is_report request ≡ true) × ((c : CheckedGraph) × IsProgramOf request c)) ended counts now

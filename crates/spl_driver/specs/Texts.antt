@@ -1,5 +1,5 @@
 -- What the program tells.
-use Rattle.std.specs.Prelude.{◌≡◌, ◌⊎◌, ℕ, Bool, true, false, if◌then◌else◌, List, [], ◌++◌, take, Option, Some, None, Result, Ok, Err, ⊤, IfSome}
+use Rattle.std.specs.Prelude.{◌≡◌, ◌⊎◌, ℕ, Bool, true, false, if◌then◌else◌, List, [], ◌++◌, codes, take, Option, Some, None, Result, Ok, Err, ⊤, IfSome}
 use Rattle.spl_value.specs.declared.memory.NoMemory.{NoMemory}
 use Rattle.feed_pour.specs.Contents.{Told}
 use Rattle.feed_pour.specs.Counts.{PerName}
@@ -17,18 +17,18 @@ use Rattle.run_report.specs.PlanTexts.{plan_text}
 use Rattle.run_report.specs.Texts.{status_text, check_text}
 use Rattle.command_line.specs.declared.request.Request.{Request}
 use Rattle.command_line.specs.declared.request.Request.TheVariants as R
-use Rattle.spl_driver.specs.Answer.{IsRun, OUT, cause_of, counts_of}
-use Rattle.spl_driver.specs.Outcome.{Report, OfSize, OfPlan, RequestOutcome, Reports, BadArrivals, Runs, IsOutcome, IsSomeProgram}
+use Rattle.spl_driver.specs.Answer.{IsRun, cause_of, counts_of}
+use Rattle.spl_driver.specs.Outcome.{Report, OfSize, OfPlan, RequestOutcome, Reports, BadArrivals, Runs, IsOutcome, IsProgramOf}
 use Rattle.spl_driver.specs.Shown.{IsBadFor, TextShown, RanTo, ShownBy}
 
 -- What the result of a request may be whose program is accepted, whatever its files hold: what is told of the checked graph of a
 -- program, a meaning that a run of it had, or a record that isn't one or isn't whole.
 abbrev pub MayComeTo : Option Request → Arrivals → PerName → PerName → RequestOutcome → Type 0
-MayComeTo (Some (R.Check program)) arrivals counts now (Reports OfSize c) = IsSomeProgram (R.Check program) c
-MayComeTo (Some (R.Plan program)) arrivals counts now (Reports OfPlan c) = IsSomeProgram (R.Plan program) c
-MayComeTo (Some (R.Run program options)) arrivals counts now (Runs c g m) = IsSomeProgram (R.Run program options) c × RanTo c g m arrivals counts now
-MayComeTo (Some (R.Replay program file)) arrivals counts now (Runs c g m) = IsSomeProgram (R.Replay program file) c × RanTo c g m arrivals counts now
-MayComeTo (Some (R.Replay program file)) arrivals counts now (BadArrivals c op) = IsSomeProgram (R.Replay program file) c × IsBadFor c op
+MayComeTo (Some (R.Check program)) arrivals counts now (Reports OfSize c) = IsProgramOf (Some (R.Check program)) c
+MayComeTo (Some (R.Plan program)) arrivals counts now (Reports OfPlan c) = IsProgramOf (Some (R.Plan program)) c
+MayComeTo (Some (R.Run program options)) arrivals counts now (Runs c g m) = IsProgramOf (Some (R.Run program options)) c × RanTo c g m arrivals counts now
+MayComeTo (Some (R.Replay program file)) arrivals counts now (Runs c g m) = IsProgramOf (Some (R.Replay program file)) c × RanTo c g m arrivals counts now
+MayComeTo (Some (R.Replay program file)) arrivals counts now (BadArrivals c op) = IsProgramOf (Some (R.Replay program file)) c × IsBadFor c op
 MayComeTo _ arrivals counts now _ = ⊥
 
 -- what its result may be, which is its outcome where the shelf tells its files
@@ -49,23 +49,17 @@ wants_counts _ = false
 abbrev pub run_text : Bool → CheckedGraph → Counts → Cause → List ℕ
 run_text counted c counts cause = (if counted then counts_text c counts else []) ++ status_text (Some c) cause
 
--- the text of a request whose program is accepted
-abbrev pub IsOutcomeText : Bool → RequestOutcome → Cause → List ℕ → Type 0
-IsOutcomeText counted (Reports report c) cause text = IsReportText report c text
-IsOutcomeText counted (Runs c g m) cause text = text ≡ run_text counted c (counts_of g m) cause
-IsOutcomeText counted (BadArrivals c op) cause text = text ≡ status_text (Some c) cause
-IsOutcomeText counted _ cause text = ⊥
-
--- how such a request ends: a program is told of, and that is done; a run ends with its fault, or without; or a record is bad
-abbrev pub EndsWith : RequestOutcome → Cause → Type 0
-EndsWith (Reports report c) cause = cause ≡ C.Done
-EndsWith (Runs c g m) cause = cause ≡ cause_of (run_fault g m)
-EndsWith (BadArrivals c op) cause = cause ≡ C.BadArrivals op
-EndsWith _ cause = ⊥
+-- How a request ends whose program is accepted, and its text: a program is told of, and that is done; a run ends with its fault, or without; or
+-- a record is bad.
+abbrev pub EndsTelling : Bool → RequestOutcome → Cause → List ℕ → Type 0
+EndsTelling counted (Reports report c) cause text = (cause ≡ C.Done) × IsReportText report c text
+EndsTelling counted (Runs c g m) cause text = (cause ≡ cause_of (run_fault g m)) × (text ≡ run_text counted c (counts_of g m) cause)
+EndsTelling counted (BadArrivals c op) cause text = (cause ≡ C.BadArrivals op) × (text ≡ status_text (Some c) cause)
+EndsTelling counted _ cause text = ⊥
 
 -- a request of such an outcome ended so, and this is its text
 abbrev pub IsTextOf : Bool → (RequestOutcome → Type 0) → Cause → List ℕ → Type 0
-IsTextOf counted Is cause text = (result : RequestOutcome) × Is result × EndsWith result cause × IsOutcomeText counted result cause text
+IsTextOf counted Is cause text = (result : RequestOutcome) × Is result × EndsTelling counted result cause text
 
 -- the text of a cause; nothing is said of that of a lack of memory
 abbrev pub IsText : Bool → Cause → (RequestOutcome → Type 0) → List ℕ → Type 0
@@ -83,13 +77,8 @@ PouredText bytes old now Failed = (now ≡ Some (old ++ bytes)) ⊎ (Failed × (
 abbrev pub PouredWhole : Bool → (RequestOutcome → Type 0) → Cause → List ℕ → Option (List ℕ) → Type 0
 PouredWhole counted Is cause old now = (text : List ℕ) × IsTextOf counted Is cause text × (now ≡ Some (old ++ text))
 
--- or a front of it and no more, since the pour failed
-abbrev pub PouredFront : Bool → (RequestOutcome → Type 0) → List ℕ → Option (List ℕ) → Type 0 → Type 0
-PouredFront counted Is old now Failed =
-    Failed × ((cause : Cause) × (text : List ℕ) × IsTextOf counted Is cause text × (n : ℕ) × (now ≡ Some (old ++ take n text)))
-
--- The cause's text was poured; nothing is said of a lack of memory. Where a write failed, that is one of a file that the request creates, and its text was poured; or
--- it is that of the text that would have come, which was begun.
+-- The cause's text was poured; nothing is said of a lack of memory. Where a write failed, that is one of a file that the request creates, and
+-- its text was poured; or it is that of the text that would have come, which was begun.
 abbrev pub Said : Cause → Option Request → (RequestOutcome → Type 0) → PerName → PerName → Option (List ℕ) → Option (List ℕ) → Type 0 → Type 0
 Said cause request Is counts later None now Failed = ⊤
 Said C.NoMemory request Is counts later (Some old) now Failed = ⊤
@@ -98,10 +87,15 @@ Said (C.Stopped fault) request Is counts later (Some old) now Failed = PouredWho
 Said (C.BadArrivals op) request Is counts later (Some old) now Failed = (text : List ℕ) × IsTextOf (wants_counts request) Is (C.BadArrivals op) text × PouredText text old now Failed
 Said (C.WriteFailed name) request Is counts later (Some old) now Failed =
     (ShownBy (C.WriteFailed name) request counts later × PouredText (status_text None (C.WriteFailed name)) old now Failed)
-    ⊎ (TextShown name request counts later Failed × PouredFront (wants_counts request) Is old now Failed)
+    ⊎ (TextShown name request counts later Failed
+    × ((cause : Cause) × (text : List ℕ) × IsTextOf (wants_counts request) Is cause text × (n : ℕ) × (now ≡ Some (old ++ take n text))))
 Said cause request Is counts later (Some old) now Failed = PouredText (status_text None cause) old now Failed
 
 -- ---- how a text is told
+
+-- the name that means standard output
+abbrev pub OUT : List ℕ
+OUT = codes "-"
 
 -- a request was carried out
 abbrev pub is_run : Cause → Bool
