@@ -1,3 +1,4 @@
+pub mod Causes
 mod FewTokens
 pub mod OneAccepted
 mod SomeAccepted

@@ -13,7 +13,8 @@ use Rattle.spl_driver.specs.Answer.{Answered, ByWords, IsRun, MayBe, is_report}
 use Rattle.spl_driver.specs.Shown.{IsReason, IsRunProgram, NothingRan, Shown}
 use Rattle.spl_driver.specs.Built.{is_built}
 use Rattle.spl_driver.specs.Texts.{wants_counts, IsText, IsToldOutcome}
-use Rattle.spl_driver.specs.Steps.{IsReport, AnswersRequest}
+use Rattle.spl_driver.specs.Steps.{AnswersRequest}
+use Rattle.spl_driver.proofs.Causes.{IsReport}
 use Rattle.spl_driver.specs.declared.answer.Answer.{Answer}
 use Rattle.spl_driver.specs.Answer.{IsOr}
 use Rattle.spl_driver.proofs.Showing.{IsPlainCause, plain_record, or_ran, or_reason, plain_ran, quiet_shown}

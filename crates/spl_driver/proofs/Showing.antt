@@ -16,7 +16,8 @@ use Rattle.spl_driver.specs.Files.{FilesOf, files_of, program_of, row_files}
 use Rattle.spl_driver.specs.Texts.{ToldAs, OUT}
 use Rattle.spl_driver.specs.Outcome.{IsProgramOf}
 use Rattle.spl_driver.specs.Shown.{ArePartsOf, IsReason, IsRunProgram, TextShown, NothingRan, Ran, RanShown, RunShown, Shown, ShownBy}
-use Rattle.spl_driver.specs.Steps.{IsReport, CountsShow, FirstOpening, FirstReading, IsRunGraph, RanAccepted, RanGraph, ReasonOf, is_bad_arrivals}
+use Rattle.spl_driver.specs.Steps.{CountsShow, FirstOpening, FirstReading, IsRunGraph, RanAccepted, RanGraph, ReasonOf, is_bad_arrivals}
+use Rattle.spl_driver.proofs.Causes.{IsReport}
 use Rattle.spl_driver.specs.Answer.{IsOr}
 use Rattle.spl_driver.specs.declared.ended.Ended.{Ended}
 use Rattle.spl_driver.proofs.Fetching.{quiet_only}

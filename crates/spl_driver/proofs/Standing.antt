@@ -28,7 +28,8 @@ use Rattle.spl_driver.specs.Texts.{wants_counts, IsToldOutcome, EndsTelling, IsT
 use Rattle.spl_driver.specs.RequestLaws.{OnePartsLaw}
 use Rattle.spl_driver.specs.AcceptedLaws.{OneAcceptedLaw}
 use Rattle.arrival_format.specs.ArrivalTexts.{Spells, arrivals_text}
-use Rattle.spl_driver.specs.Steps.{FirstOpening, FirstReading, MayBeOutcome, CompiledAt, FollowsFile, IsAcceptedOutcome, IsToldAcceptedOutcome, CountsShow, FilesShow, RecordFor, RecordOf, ReadingAnswered, WholeFails, is_ended_run, EndsWith}
+use Rattle.spl_driver.specs.Steps.{FirstOpening, FirstReading, MayBeOutcome, CompiledAt, FollowsFile, IsAcceptedOutcome, IsToldAcceptedOutcome, CountsShow, FilesShow, RecordFor, RecordOf, WholeFails, is_ended_run}
+use Rattle.spl_driver.proofs.Causes.{ReadingAnswered, EndsWith}
 use Rattle.spl_driver.specs.declared.compiled.Compiled.TheVariants as P
 use Rattle.spl_driver.specs.declared.ended.Ended.{Ended}
 use Rattle.spl_driver.proofs.Fetching.{fails_more, own_name, quiet_only, read_itself, reads_whole, told_again, same_told}

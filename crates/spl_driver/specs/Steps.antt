@@ -1,6 +1,6 @@
 -- The results of the steps of a request: the program compiled, its graph run, its sinks written.
 use Prim.Native.Nat.{suc}
-use Rattle.std.specs.Prelude.{◌≡◌, ◌≢◌, ◌<◌, ◌-◌, ◌^◌, ◌⊎◌, ◌||◌, ℕ, List, [], ◌∷◌, ◌++◌, map, if◌then◌else◌, Bool, true, false, ⊤, Option, Some, None, Ok, Err, IfOk, IfSome, IsSomeAnd, option_and_then, slice_get}
+use Rattle.std.specs.Prelude.{◌≡◌, ◌≢◌, ◌<◌, ◌-◌, ◌^◌, ◌⊎◌, ◌||◌, ℕ, List, [], ◌∷◌, ◌++◌, map, if◌then◌else◌, Bool, true, false, ⊤, Option, Some, None, Ok, Err, IfOk, IfSome, slice_get}
 use Rattle.std.specs.Str.{bytes_eq}
 use Rattle.spl_value.specs.declared.item.Fault.{Fault}
 use Rattle.spl_value.specs.declared.item.Item.{Item}
@@ -21,7 +21,7 @@ use Rattle.run_report.specs.declared.cause.Cause.{Cause}
 use Rattle.run_report.specs.declared.cause.Cause.TheVariants as C
 use Rattle.run_report.specs.Refusals.{refusal_of}
 use Rattle.run_report.specs.Texts.{status_text}
-use Rattle.check_laws.specs.Files.{source_file, source_files, sink_files, is_named, OwnFiles}
+use Rattle.check_laws.specs.Files.{source_files, sink_files, is_named, OwnFiles}
 use Rattle.file_adapters.specs.declared.sinks.Sink.{Sink}
 use Rattle.file_adapters.specs.declared.sinks.Sunk.{Sunk}
 use Rattle.file_adapters.specs.declared.sinks.Sunk.TheVariants as W
@@ -34,7 +34,7 @@ use Rattle.list_engine.specs.Runs.{RowsFit, SinksGiven, rows_at}
 use Rattle.list_engine.specs.Runs as L
 use Rattle.source_rows.specs.Counting.{OnlyOf, OnlyRead, OnlyReads, OpeningFailed}
 use Rattle.source_rows.specs.Sources.{FaultsNameSources, ReadsCounted, ReadsFail, rows_told}
-use Rattle.spl_driver.specs.Outcome.{IsProgramOf, RequestOutcome, NotBuilt, OfPlan, OfSize, Reports, BadArrivals, Runs, IsReplay, IsUnder, fails_within, has_fault, has_record_fault, meant, run_outcome}
+use Rattle.spl_driver.specs.Outcome.{RequestOutcome, NotBuilt, OfPlan, OfSize, Reports, BadArrivals, Runs, IsReplay, IsUnder, has_fault, has_record_fault, meant, run_outcome}
 use Rattle.spl_driver.specs.Answer.{IsUnread, WholeReads, Answered, ByWords, CauseMeans, DevicesMean, DevicesShow, EachSink, HoldsText, IsRecordOf, MayBe, NoCountChanged, IsOr, RecordHolds, StoppedBy, cause_of, is_report}
 use Rattle.spl_driver.specs.Shown.{IsBadFor, IsReason, NothingRan, RanShown, RanTo, RunShown, Shown}
 use Rattle.spl_driver.specs.Files.{FilesOf}
@@ -63,30 +63,11 @@ abbrev pub is_bad_arrivals : Cause → Bool
 is_bad_arrivals (C.BadArrivals op) = true
 is_bad_arrivals _ = false
 
-abbrev pub is_replay : Option Request → Bool
-is_replay (Some (R.Replay program arrivals)) = true
-is_replay _ = false
-
--- how a request ends whose program is accepted
-abbrev pub EndsWith : RequestOutcome → Cause → Type 0
-EndsWith (Reports report c) cause = cause ≡ C.Done
-EndsWith (Runs c g m) cause = cause ≡ cause_of (run_fault g m)
-EndsWith (BadArrivals c op) cause = cause ≡ C.BadArrivals op
-EndsWith _ cause = ⊥
-
 -- ---- counts of files that are opened and read
 
 -- the reader of a file that is read as a whole fails where its count of reading changes
 abbrev pub WholeFails : PerName → PerName → Told → Type 0
 WholeFails counts now old = (n : List ℕ) → (now n).reading ≢ (counts n).reading → has_fault (old.script n) ≡ true
-
--- the reader of such a file fails within its bound, and the answer names it, or memory ran out
-abbrev pub ReadingAnswered : Cause → ℕ → Told → List ℕ → Type 0
-ReadingAnswered cause most old name = (fails_within most (old.script name) ≡ true) × IsOr (C.ReadFailed name) cause
-
--- the operator with this number is a source, and the count of reading of its file rose
-abbrev pub SourceUnread : List CheckedClauses → ℕ → PerName → PerName → Type 0
-SourceUnread parts op old new = IsSomeAnd (option_and_then source_file (slice_get parts op)) (λ file. Rose (old file).reading (new file).reading)
 
 -- a file that is opened first couldn't be, or couldn't be read, and nothing else was counted
 pub record FirstOpening (name : List ℕ) (old new : PerName) : Type 0 where
@@ -316,10 +297,6 @@ ReasonOf (C.OpenFailed name) c = ⊤
 ReasonOf (C.ReadFailed name) c = ⊤
 ReasonOf (C.WriteFailed name) c = ⊤
 ReasonOf C.NoMemory c = ⊤
-
--- the request asks for what is told of a program
-abbrev pub IsReport : Option Request → Type 0
-IsReport request = (is_report request ≡ true) × ((c : CheckedGraph) × IsProgramOf request c)
 
 -- what ran of it, by its request
 abbrev pub IsRunGraph : Request → CheckedGraph → CheckedGraph → Type 0

@@ -4,7 +4,8 @@ use Rattle.spl_value.specs.declared.memory.NoMemory.{NoMemory}
 use Rattle.run_report.specs.declared.cause.Cause.{Cause}
 use Rattle.spl_driver.specs.Outcome.{OfPlan, OfSize}
 use Rattle.command_line.specs.declared.request.Request.{Request}
-use Rattle.spl_driver.specs.Steps.{ReasonOf, is_replay}
+use Rattle.spl_driver.specs.Steps.{ReasonOf}
+use Rattle.spl_driver.proofs.Causes.{is_replay}
 use Rattle.spl_driver.specs.Texts.{IsReportText}
 use Rattle.spl_driver.proofs.Showing.{graph_ran, replay_ran, report_ran}
 use Rattle.spl_driver.proofs.Carrying.{asks_plan, asks_size, follows_replay, follows_unless, needs_replay, needs_unless, replay_kinds, replayed_counts, replayed_files, replayed_text, ran_counts, ran_files, ran_record, ran_text, run_kinds, reported_counts, reported_files, reported_text}
