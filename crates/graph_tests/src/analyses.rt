@@ -9,39 +9,19 @@ mod chains;
 mod operators;
 mod plan_texts;
 mod plans;
-mod shells;
+pub(crate) mod shells;
 
-use crate::analyses::plan_texts::plan_text;
-use crate::analyses::shells::SHELLS;
-use crate::reading::checked_of;
+use crate::analyses::plan_texts::add_plan;
+use crate::asked::{Analysis, Asked};
 use attribute_flow::{source_of, trace};
 use language_model::Checked;
 use selectivity_rules::gives;
 use spl_value::{Ids, Items};
 use state_analysis::state_of;
 use std::alloc::{AllocError, Global};
-use std::test::Fail;
 use stream_model::{Gives, StateKind};
-use test_texts::rows::{Answers, expect, expect_spread};
-use test_texts::shells::program;
-
-/// What is asked of a program.
-#[derive(Clone, Copy)]
-enum Asked {
-    /// The class, the state and the sources of its last operator: `One; Keyed 0 2; 0 -`.
-    Operator,
-    /// The sources along the chain of its operators but the first: `0 -`.
-    Chain,
-    /// Its regions: `turns -: F; pulses k: A`.
-    Plan,
-}
-
-impl Answers for Asked {
-    fn answer(&self, alloc: Global, text: &str) -> Result<String, AllocError> {
-        let program = program(alloc, SHELLS, text)?;
-        answered(alloc, program.as_str().as_bytes(), *self)
-    }
-}
+use test_texts::rows::{Untrue, expect, expect_spread};
+use test_texts::text::Text;
 
 fn class_text(class: Gives) -> &'static str {
     match class {
@@ -51,24 +31,24 @@ fn class_text(class: Gives) -> &'static str {
     }
 }
 
-fn add_state(text: &mut String, state: &StateKind) -> Result<(), AllocError> {
+fn add_state(text: &mut Text, state: &StateKind) {
     match state {
-        StateKind::Stateless => text.push_str(" Stateless;"),
-        StateKind::Whole => text.push_str(" Whole;"),
+        StateKind::Stateless => text.add(" Stateless;"),
+        StateKind::Whole => text.add(" Whole;"),
         StateKind::Keyed(places) => {
-            text.push_str(" Keyed")?;
+            text.add(" Keyed");
             for place in places.as_slice() {
-                write!(text, " {place}")?;
+                text.add_place(" ", *place);
             }
-            text.push_str(";")
+            text.add(";");
         }
     }
 }
 
-fn add_source(text: &mut String, source: Option<u32>) -> Result<(), AllocError> {
+fn add_source(text: &mut Text, source: Option<u32>) {
     match source {
-        Some(place) => write!(text, " {place}"),
-        None => text.push_str(" -"),
+        Some(place) => text.add_place(" ", place),
+        None => text.add(" -"),
     }
 }
 
@@ -86,33 +66,26 @@ fn width_of(checked: &Checked, op: u32) -> u32 {
     }
 }
 
-fn operator_text(alloc: Global, checked: &Checked, op: u32) -> Result<String, AllocError>
+fn add_operator(alloc: Global, text: &mut Text, checked: &Checked, op: u32)
     requires { op < length checked.now.parts }
 {
-    let mut text = class_text(gives(checked, op)).to_string(alloc)?;
+    text.add(class_text(gives(checked, op)));
     match state_of(alloc, checked, op) {
-        Ok(state) => add_state(&mut text, &state)?,
-        Err(_) => text.push_str(" memory;")?,
+        Ok(state) => add_state(text, &state),
+        Err(_) => text.add(" memory;"),
     }
     for attribute in 0..width_of(checked, op) {
-        add_source(&mut text, source_of(checked, op, attribute))?;
+        add_source(text, source_of(checked, op, attribute));
     }
-    Ok(text)
 }
 
-fn chain_text(
-    alloc: Global,
-    checked: &Checked,
-    chain: &Ids,
-    width: u32,
-) -> Result<String, AllocError>
+fn add_chain(text: &mut Text, checked: &Checked, chain: &Ids, width: u32)
     requires { (g : Graph) → graph_of checked.now ≡ g → AreNumbers g chain.now }
 {
-    let mut text = "chain".to_string(alloc)?;
+    text.add("chain");
     for attribute in 0..width {
-        add_source(&mut text, trace(checked, chain, attribute))?;
+        add_source(text, trace(checked, chain, attribute));
     }
-    Ok(text)
 }
 
 /// The numbers from 1 to below that one.
@@ -126,42 +99,41 @@ fn numbers_below(alloc: Global, count: u32) -> Result<Ids, AllocError>
     Ok(Items::from_vec(numbers))
 }
 
-fn shown(alloc: Global, checked: &Checked, asked: Asked) -> Result<String, AllocError> {
+/// Adds what the analyses say.
+pub(crate) fn add_analysis(alloc: Global, text: &mut Text, checked: &Checked, asked: Analysis) {
     let Ok(count) = u32::try_from(checked.parts.len()) else {
-        return "many operators".to_string(alloc);
+        return text.add("many operators");
     };
     let Some(last) = count.checked_sub(1) else {
-        return "no operator".to_string(alloc);
+        return text.add("no operator");
     };
     match asked {
-        Asked::Operator => operator_text(alloc, checked, last),
-        Asked::Chain => {
-            let chain = numbers_below(alloc, count)?;
-            chain_text(alloc, checked, &chain, width_of(checked, last))
-        }
-        Asked::Plan => plan_text(alloc, checked),
-    }
-}
-
-fn answered(alloc: Global, program: &[u8], asked: Asked) -> Result<String, AllocError> {
-    match checked_of(alloc, program) {
-        Ok(checked) => shown(alloc, &checked, asked),
-        Err(wanting) => wanting.to_string(alloc),
+        Analysis::Operator => add_operator(alloc, text, checked, last),
+        Analysis::Chain => match numbers_below(alloc, count) {
+            Ok(chain) => add_chain(text, checked, &chain, width_of(checked, last)),
+            Err(_) => text.add("memory"),
+        },
+        Analysis::Plan => add_plan(alloc, text, checked),
     }
 }
 
 #[test]
-fn operators_keep_copy_and_cause_what_their_clauses_say(rt: HostRuntime) -> Result<(), Fail> {
+fn operators_keep_copy_and_cause_what_their_clauses_say(rt: HostRuntime) -> Result<(), Untrue> {
     let alloc = rt.alloc();
-    expect(alloc, &Asked::Operator, &[operators::ROWS])?;
-    expect(alloc, &Asked::Chain, &[chains::ROWS])?;
-    Ok(())
+    expect(
+        alloc,
+        &Asked::Analysis(Analysis::Operator),
+        &[operators::ROWS],
+    )
+    .and(expect(alloc, &Asked::Analysis(Analysis::Chain), &[chains::ROWS]))
 }
 
 #[test]
-fn regions_are_those_that_the_rules_determine(rt: HostRuntime) -> Result<(), Fail> {
+fn regions_are_those_that_the_rules_determine(rt: HostRuntime) -> Result<(), Untrue> {
     let alloc = rt.alloc();
-    expect(alloc, &Asked::Plan, &[plans::ROWS])?;
-    expect_spread(alloc, &Asked::Plan, plans::LONG)?;
-    Ok(())
+    expect(alloc, &Asked::Analysis(Analysis::Plan), &[plans::ROWS]).and(expect_spread(
+        alloc,
+        &Asked::Analysis(Analysis::Plan),
+        plans::LONG,
+    ))
 }

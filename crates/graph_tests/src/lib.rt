@@ -5,6 +5,8 @@
 #[cfg(test)]
 mod analyses;
 #[cfg(test)]
+mod asked;
+#[cfg(test)]
 mod clauses;
 mod copying;
 #[cfg(test)]

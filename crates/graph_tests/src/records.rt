@@ -1,5 +1,5 @@
 //! Runs in the order of a record.
-use crate::reading::checked_of;
+use crate::asked::{Asked, answered};
 use language_model::Checked;
 use list_engine::{Order, Run, RunAnswer};
 use memory_files::MemoryShelf;
@@ -7,9 +7,8 @@ use op_kit::run_graph;
 use source_rows::{Sources, read_sources};
 use spl_value::{Inputs, Item, Items, Name, NoMemory, Value};
 use std::alloc::{AllocError, Global};
-use std::test::Fail;
 use stream_model::{ArrivalList, Arrivals};
-use test_texts::rows::{Answers, expect};
+use test_texts::rows::{Answers, Untrue, expect};
 use test_texts::spelled::spelled_out;
 use test_texts::text::Text;
 use test_texts::words::{bytes, number};
@@ -56,10 +55,7 @@ struct Recorded;
 
 impl Answers for Recorded {
     fn answer(&self, alloc: Global, text: &str) -> Result<String, AllocError> {
-        match checked_of(alloc, PROGRAM.as_bytes()) {
-            Ok(checked) => from_files(alloc, &checked, text),
-            Err(wanting) => wanting.to_string(alloc),
-        }
+        answered(alloc, PROGRAM.as_bytes(), Asked::Run(text))
     }
 }
 
@@ -69,19 +65,32 @@ fn put(alloc: Global, shelf: &mut MemoryShelf, name: &str, text: &str) -> Result
     shelf.put_file(&name, bytes(alloc, text.as_str())?)
 }
 
-/// The run of a row.
-fn from_files(alloc: Global, checked: &Checked, row: &str) -> Result<String, AllocError> {
+// Adds the run from the sources' files in an order.
+fn add_run_from(
+    alloc: Global,
+    text: &mut Text,
+    checked: &Checked,
+    shelf: &mut MemoryShelf,
+    order: &Order,
+) {
+    match read_sources(alloc, shelf, checked) {
+        Sources::Rows(rows) => add_answer(text, run_graph(alloc, checked, rows, order)),
+        Sources::OpenFailed(_) => text.add("no file"),
+        Sources::Memory => text.add("memory"),
+    }
+}
+
+/// Adds the run of a row.
+pub(crate) fn add_run(alloc: Global, text: &mut Text, checked: &Checked, row: &str) {
     let mut shelf = MemoryShelf::new(alloc);
     let (first, rest) = row.split_once(" | ").unwrap_or((row, ""));
     let (second, lists) = rest.split_once(" | ").unwrap_or((rest, ""));
     if put(alloc, &mut shelf, "a", first).is_err() || put(alloc, &mut shelf, "b", second).is_err() {
-        return "memory".to_string(alloc);
+        return text.add("memory");
     }
-    let order = Order::Recorded(record_of(alloc, lists)?);
-    match read_sources(alloc, &mut shelf, checked) {
-        Sources::Rows(rows) => shown(alloc, run_graph(alloc, checked, rows, &order)),
-        Sources::OpenFailed(_) => "no file".to_string(alloc),
-        Sources::Memory => "memory".to_string(alloc),
+    match record_of(alloc, lists) {
+        Ok(record) => add_run_from(alloc, text, checked, &mut shelf, &Order::Recorded(record)),
+        Err(_) => text.add("memory"),
     }
 }
 
@@ -127,29 +136,25 @@ fn add_sink(text: &mut Text, run: &Run, number: usize) {
     }
 }
 
-fn shown(alloc: Global, answer: Result<Run, RunAnswer>) -> Result<String, AllocError> {
-    let mut text = Text::new(alloc);
+fn add_answer(text: &mut Text, answer: Result<Run, RunAnswer>) {
     match answer {
         Ok(run) => {
-            add_sink(&mut text, &run, 3);
+            add_sink(text, &run, 3);
             text.add("; ");
-            add_sink(&mut text, &run, 4);
+            add_sink(text, &run, 4);
             if let Some(fault) = run.fault {
-                text.add("; fault of ");
-                text.add_number(i128::from(fault.op));
+                text.add_place("; fault of ", fault.op);
             }
         }
         Err(RunAnswer::NotWhole(op)) => {
-            text.add_number(i128::from(op));
+            text.add_place("", op);
             text.add(" isn't whole");
         }
         Err(RunAnswer::Memory) => text.add("memory"),
     }
-    text.finish()
 }
 
 #[test]
-fn runs_follow_whole_records_alone(rt: HostRuntime) -> Result<(), Fail> {
-    expect(rt.alloc(), &Recorded, &[ROWS])?;
-    Ok(())
+fn runs_follow_whole_records_alone(rt: HostRuntime) -> Result<(), Untrue> {
+    expect(rt.alloc(), &Recorded, &[ROWS])
 }

@@ -13,7 +13,6 @@
 use crate::windows::add_policy;
 use language_model::{Checked, CheckedClauses, CollectedAttribute, Collector, Handlers, Position};
 use spl_tree::{Code, Slot};
-use std::alloc::{AllocError, Global};
 use test_texts::text::Text;
 use test_texts::types::{add_attributes, integer_word};
 
@@ -179,22 +178,18 @@ fn add_port(text: &mut Text, places: &[u32]) {
     text.add(")");
 }
 
-/// What is kept of each operator, with `; ` between them.
-pub fn parts_text(alloc: Global, checked: &Checked) -> Result<String, AllocError> {
-    let mut text = Text::new(alloc);
+/// Adds what is kept of each operator, with `; ` between them.
+pub fn add_parts(text: &mut Text, checked: &Checked) {
     for (at, part) in checked.parts.as_slice().iter().enumerate() {
         text.add_between(at, "; ");
-        add_part(&mut text, part);
+        add_part(text, part);
     }
-    text.finish()
 }
 
-/// The attributes of each stream, with `; ` between the streams.
-pub fn schemas_text(alloc: Global, checked: &Checked) -> Result<String, AllocError> {
-    let mut text = Text::new(alloc);
+/// Adds the attributes of each stream, with `; ` between the streams.
+pub fn add_schemas(text: &mut Text, checked: &Checked) {
     for (at, schema) in checked.schemas.as_slice().iter().enumerate() {
         text.add_between(at, "; ");
-        add_attributes(&mut text, schema.as_slice());
+        add_attributes(text, schema.as_slice());
     }
-    text.finish()
 }

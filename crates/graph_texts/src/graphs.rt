@@ -7,7 +7,6 @@
 //! | `1: 0 2; 0@0.1: 2 (1 from 0)` | bodies: the composite's number, the number of the body and of the invocation around it, the streams of its names, and each input's number of streams and first one |
 use operator_kinds::rules_of;
 use spl_tree::{Expansion, Graph, Op};
-use std::alloc::{AllocError, Global};
 use test_texts::text::Text;
 
 fn add_numbers(text: &mut Text, numbers: &[u32]) {
@@ -52,19 +51,17 @@ fn add_body(text: &mut Text, body: &Expansion) {
     }
 }
 
-/// A graph.
-pub fn graph_text(alloc: Global, graph: &Graph) -> Result<String, AllocError> {
-    let mut text = Text::new(alloc);
+/// Adds a graph.
+pub fn add_graph(text: &mut Text, graph: &Graph) {
     for (at, op) in graph.ops.as_slice().iter().enumerate() {
         text.add_between(at, "; ");
-        add_op(&mut text, op);
+        add_op(text, op);
     }
     text.add(" | ");
-    add_numbers(&mut text, graph.topo.as_slice());
+    add_numbers(text, graph.topo.as_slice());
     text.add(" | ");
     for (at, body) in graph.expansions.as_slice().iter().enumerate() {
         text.add_between(at, "; ");
-        add_body(&mut text, body);
+        add_body(text, body);
     }
-    text.finish()
 }

@@ -3,7 +3,7 @@
 use language_model::Checked;
 use region_choice::choose;
 use spl_value::{Places, Schema};
-use std::alloc::{AllocError, Global};
+use std::alloc::Global;
 use stream_model::{Merge, Region};
 use test_texts::text::Text;
 
@@ -51,17 +51,15 @@ fn add_region(text: &mut Text, checked: &Checked, region: &Region) {
     }
 }
 
-pub(crate) fn plan_text(alloc: Global, checked: &Checked) -> Result<String, AllocError> {
-    let Ok(plan) = choose(alloc, checked) else {
-        return "memory".to_string(alloc);
-    };
-    if plan.is_empty() {
-        return "none".to_string(alloc);
+pub(crate) fn add_plan(alloc: Global, text: &mut Text, checked: &Checked) {
+    match choose(alloc, checked) {
+        Ok(plan) if plan.is_empty() => text.add("none"),
+        Ok(plan) => {
+            for (at, region) in plan.as_slice().iter().enumerate() {
+                text.add_between(at, "; ");
+                add_region(text, checked, region);
+            }
+        }
+        Err(_) => text.add("memory"),
     }
-    let mut text = Text::new(alloc);
-    for (at, region) in plan.as_slice().iter().enumerate() {
-        text.add_between(at, "; ");
-        add_region(&mut text, checked, region);
-    }
-    text.finish()
 }
