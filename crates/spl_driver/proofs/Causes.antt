@@ -25,7 +25,7 @@ EndsWith (Runs c g m) cause = cause ≡ cause_of (run_fault g m)
 EndsWith (BadArrivals c op) cause = cause ≡ C.BadArrivals op
 EndsWith _ cause = ⊥
 
--- the reader of such a file fails within its bound, and the answer names it, or memory ran out
+-- the reader of a file fails within this bound, and the answer names the file, or memory ran out
 abbrev pub ReadingAnswered : Cause → ℕ → Told → List ℕ → Type 0
 ReadingAnswered cause most old name = (fails_within most (old.script name) ≡ true) × IsOr (C.ReadFailed name) cause
 

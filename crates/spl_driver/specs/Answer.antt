@@ -116,7 +116,9 @@ CauseMeans (C.Refused refusal) Is ended old new = Is (Refused refusal) × SameFi
 CauseMeans C.NotBuilt Is ended old new = Is NotBuilt × SameFiles old new
 CauseMeans (C.BadArrivals op) Is ended old new = ((c : CheckedGraph) × Is (BadArrivals c op)) × SameFiles old new
 CauseMeans (C.ReadFailed name) Is ended old new = SameFiles old new
-CauseMeans _ Is ended old new = (result : RequestOutcome) → Is result → Begun result old new
+CauseMeans (C.OpenFailed name) Is ended old new = (result : RequestOutcome) → Is result → Begun result old new
+CauseMeans (C.WriteFailed name) Is ended old new = (result : RequestOutcome) → Is result → Begun result old new
+CauseMeans C.NoMemory Is ended old new = (result : RequestOutcome) → Is result → Begun result old new
 
 -- ---- which device failed
 

@@ -10,7 +10,8 @@ is_plain options = is_none options.width && (is_none options.workers && is_none 
 
 -- `check`, `plan`, `replay`, and `run` with no options but `--arrivals` and `--counts`
 abbrev pub is_built : Request → Bool
+is_built (R.Check program) = true
+is_built (R.Plan program) = true
 is_built (R.Run program options) = is_plain options
-is_built (R.Simulate program width schedule steps) = false
-is_built (R.Make name rows start) = false
-is_built _ = true
+is_built (R.Replay program file) = true
+is_built _ = false
