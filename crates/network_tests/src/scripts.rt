@@ -110,7 +110,9 @@ fn add_packet<M: Merges>(alloc: Global, merger: &mut M, width: u32, word: &str, 
     requires { M.width merger.old ≡ width }
     ensures { M.width merger.new ≡ width }
 {
-    let (channel, rest) = word.split_once(':').unwrap_or((word, ""));
+    let Some((channel, rest)) = word.split_once(':') else {
+        return shown.add("bad word");
+    };
     let channel = number(channel);
     if !is_wanting(merger, width, channel) {
         return shown.add("unwanted");
