@@ -109,8 +109,8 @@ pub(crate) const CONTENTS: &str = r#"
 @op rstring v → stream<rstring a, rstring z, rstring f, rstring l, rstring y> B = Aggregate(T) {window T: tumbling, count(3); output B: a = Min(v), z = Max(v), f = First(v), l = Last(v), y = Any(v);} | t.csv: b␊""␊ab␊a␊Z␊aa␊ => 0; o.csv ,b,b,ab,b␊Z,aa,a,aa,a␊; counts 2:2
 # booleans
 @op boolean v → stream<boolean f, boolean l, boolean y> B = Aggregate(T) {window T: tumbling, count(3); output B: f = First(v), l = Last(v), y = Any(!v);} | t.csv: true␊false␊false␊ => 0; o.csv true,false,false␊; counts 2:1
-# a list, a map and a tuple
-@op int64 n → stream<list<int64> l, map<int64, rstring> m, tuple<int64 x> t, int32 k> A = Aggregate(T) {window T: tumbling, count(2); output A: l = First([n, n]), m = Last({n : "x"}), t = Any({x = n}), k = Count();} stream<int64 a, boolean b, int64 c, int32 k> B = Functor(A) {output B: a = l[1], b = 5l in m, c = t.x;} | t.csv: 4␊5␊ => 0; o.csv 4,true,4,2␊; counts 3:1
+# lists, maps and tuples
+@op int64 n → stream<list<int64> a, list<int64> b, list<int64> c, map<int64, rstring> d, map<int64, rstring> e, map<int64, rstring> f, tuple<int64 x> g, tuple<int64 x> h, tuple<int64 x> i, int32 k> A = Aggregate(T) {window T: tumbling, count(2); output A: a = First([n, n]), b = Last([n, n]), c = Any([n, n]), d = First({n : "x"}), e = Last({n : "x"}), f = Any({n : "x"}), g = First({x = n}), h = Last({x = n}), i = Any({x = n}), k = Count();} stream<int64 a, int64 b, int64 c, boolean d, boolean e, boolean f, int64 g, int64 h, int64 i, int32 k> B = Functor(A) {output B: a = A.a[1], b = A.b[1], c = A.c[1], d = 4l in A.d, e = 5l in A.e, f = 4l in A.f, g = A.g.x, h = A.h.x, i = A.i.x;} | t.csv: 4␊5␊ => 0; o.csv 4,5,4,true,true,true,4,5,4,2␊; counts 3:1
 # sums that wrap below the least value
 @op int8 v → stream<int8 s, int8 d> B = Aggregate(T) {window T: tumbling, count(3); output B: s = Sum(v), d = Sum(-v);} | t.csv: -128␊-128␊-1␊ => 0; o.csv -1,1␊; counts 2:1
 # the oldest and the newest of a window that slides

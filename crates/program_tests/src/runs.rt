@@ -105,6 +105,6 @@ composite Swap(output F, G; input I, J) {graph stream<J> F = Filter(J); stream<I
 composite Anything {param expression<int64> $least : 10l; expression<rstring> $from : "t.csv"; graph stream<int64 n> T = FileSource() {param file: $from;} stream<int64 n> B = Filter(T) {param filter: n > $least;} () as Out = FileSink(B) {param file: "o.csv";}} | t.csv: 10␊11␊ => 0; o.csv 11␊; counts 2:1
 # one with the name of an operator
 composite Filter(output F; input I) {graph () as Out = FileSink(I) {param file: "o.csv";} stream<int64 n> F = FileSource() {param file: "b.csv";}} composite Main {graph stream<int64 n> A = FileSource() {param file: "a.csv";} stream<int64 n> B = Filter(A); () as X = FileSink(B) {param file: "x.csv";}} | a.csv: 1␊ | b.csv: 2␊3␊ => 0; o.csv 1␊; x.csv 2␊3␊; counts 1:1 3:2
-# one that nobody invokes, with an operator that isn't built
+# one that nobody invokes
 composite Sums(output A; input I) {graph stream<I> A = Aggregate(I) {window I: tumbling, count(2);}} composite Main {graph stream<int64 n> T = FileSource() {param file: "t.csv";} () as Out = FileSink(T) {param file: "o.csv";}} | t.csv: 1␊ => 0; o.csv 1␊; counts 1:1
 "#;
