@@ -13,7 +13,7 @@ use Rattle.language_model.specs.Typing.{Found, after}
 use Rattle.language_model.specs.declared.answer.TypeAnswer.{TypeAnswer}
 use Rattle.language_model.specs.declared.answer.TypeAnswer.TheVariants.{Refused, Memory}
 use Rattle.language_model.specs.Finds.{Finds, with_front}
-use Rattle.body_rules.specs.Leads.{Leads}
+use Rattle.body_rules.specs.steps.Leads.{Leads}
 use Rattle.language_model.proofs.FoundAnswers.{after_after, stops}
 use Rattle.spl_value.proofs.Lists.{drop_at}
 

@@ -8,8 +8,8 @@ use Rattle.language_model.specs.declared.scope.Scope.{Scope}
 use Rattle.language_model.specs.declared.scope.Variable.{Variable}
 use Rattle.language_model.specs.BodyFits.{with_variable}
 use Rattle.language_model.specs.BodyTyping.{variable}
-use Rattle.body_rules.specs.Leads.{shortened}
-use Rattle.body_rules.specs.Signatures.{with_parameters}
+use Rattle.body_rules.specs.steps.Leads.{shortened}
+use Rattle.body_rules.specs.steps.Signatures.{with_parameters}
 
 take_fewer : {A : Type 0} (n m : ℕ) (xs : List A) → n ≤ m → take n (take m xs) ≡ take n xs
 take_fewer zero m xs h = refl

@@ -16,7 +16,7 @@ use Rattle.language_model.specs.Typing.{Found, after}
 use Rattle.language_model.specs.declared.answer.TypeAnswer.{TypeAnswer}
 use Rattle.language_model.specs.Finds.{Finds, with_front}
 use Rattle.body_rules.specs.declared.functions.FunctionTypes.{FunctionTypes}
-use Rattle.body_rules.specs.Signatures.{as_types, function_in, scope_in, with_definition, with_function}
+use Rattle.body_rules.specs.steps.Signatures.{as_types, function_in, scope_in, with_definition, with_function}
 use Rattle.language_model.proofs.FoundAnswers.{after_after, finds_by, stops}
 use Rattle.spl_value.proofs.Lists.{drop_at, take_at as taken_on}
 

@@ -11,7 +11,7 @@ use Rattle.language_model.specs.Typing.{Found, after}
 use Rattle.language_model.specs.declared.answer.TypeAnswer.{TypeAnswer}
 use Rattle.language_model.specs.declared.answer.TypeAnswer.TheVariants.{Refused, Memory}
 use Rattle.language_model.specs.Finds.{Finds}
-use Rattle.body_rules.specs.Leads.{Leads, inside_loop}
+use Rattle.body_rules.specs.steps.Leads.{Leads, inside_loop}
 use Rattle.language_model.proofs.FoundAnswers.{exit}
 
 pub leads_by : (o p : Found (Statement × Scope)) (r : Result Statement TypeAnswer) (scope : Scope) → o ≡ p → Leads p r scope → Leads o r scope

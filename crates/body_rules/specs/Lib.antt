@@ -1,5 +1,3 @@
 pub mod Settings
-pub mod Leads
-pub mod Signatures
-pub mod Choices
 pub mod Handling
+pub mod steps

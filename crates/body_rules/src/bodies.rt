@@ -1,9 +1,9 @@
 //! The code of bodies.
 ghost use Rattle.std.specs.Prelude.{◌≡◌, ◌++◌, ◌∷◌, [], OnOk, length};
 ghost use Rattle.language_model.specs.BodyTyping.{alone, arms_typing, body_typing, for_typing, other_typing, part_stated, row_typing, stated};
-ghost use Rattle.body_rules.specs.Choices.{block_typing, if_typing, while_typing};
+ghost use Rattle.body_rules.specs.steps.Choices.{block_typing, if_typing, while_typing};
 ghost use Rattle.language_model.specs.BodyTypingLaws.{arms_stated, other_stated, row_stated};
-ghost use Rattle.body_rules.specs.Leads.{Leads, shortened};
+ghost use Rattle.body_rules.specs.steps.Leads.{Leads, shortened};
 ghost use Rattle.body_rules.specs.Settings.{setting_meant};
 ghost use Rattle.language_model.specs.Finds.{Finds};
 

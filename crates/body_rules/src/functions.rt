@@ -6,8 +6,8 @@ ghost use Rattle.language_model.specs.BodyTyping.{body_typing};
 ghost use Rattle.language_model.specs.FunctionTyping.{function_types, functions_typing, if_returning, kinds, result_type, unit_scope};
 ghost use Rattle.language_model.specs.TypeNames.{unit_types};
 ghost use Rattle.spl_tree.specs.declared.unit.Definition.TheVariants as D;
-ghost use Rattle.body_rules.specs.Leads.{shortened};
-ghost use Rattle.body_rules.specs.Signatures.{as_types, function_in, scope_in, with_definition, with_function, with_parameters};
+ghost use Rattle.body_rules.specs.steps.Leads.{shortened};
+ghost use Rattle.body_rules.specs.steps.Signatures.{as_types, function_in, scope_in, with_definition, with_function, with_parameters};
 ghost use Rattle.written_types.specs.TypeScopes.{types_in};
 ghost use Rattle.language_model.specs.Finds.{Finds};
 

@@ -5,7 +5,7 @@ use Rattle.std.proofs.Common.{refl, ap, ◌∙◌}
 use Rattle.spl_tree.specs.declared.code.CallName.{CallName}
 use Rattle.spl_tree.specs.declared.code.CallName.TheVariants as A
 use Rattle.language_model.specs.Typing.{call_of, or_else}
-use Rattle.call_rules.specs.CallNames.{changing, computing, looking}
+use Rattle.call_rules.specs.steps.CallNames.{changing, computing, looking}
 
 passed_on : (b : Bool) (c : CallName) (o p : Option CallName) → (if b then Some c else or_else o p) ≡ or_else (if b then Some c else o) p
 passed_on true c o p = refl

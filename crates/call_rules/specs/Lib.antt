@@ -1,4 +1,3 @@
-pub mod Kinds
 pub mod Operands
 pub mod Calls
-pub mod CallNames
+pub mod steps

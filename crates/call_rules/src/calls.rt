@@ -9,8 +9,8 @@ ghost use Rattle.language_model.specs.Readings.{root_of};
 ghost use Rattle.language_model.specs.Typing.{call_of, argument_count, int32, level_first, level_changed, is_mutable, if_mutable, typed};
 ghost use Rattle.language_model.specs.TypingLaws.{parted, parts};
 ghost use Rattle.language_model.specs.Finds.{Finds, FindsBy};
-ghost use Rattle.call_rules.specs.CallNames.{changing, computing, looking};
-ghost use Rattle.call_rules.specs.Kinds.{has_order};
+ghost use Rattle.call_rules.specs.steps.CallNames.{changing, computing, looking};
+ghost use Rattle.call_rules.specs.steps.Kinds.{has_order};
 ghost use Rattle.call_rules.specs.Calls.{asked, change_asked, first_for, given, row_for, value_asked};
 
 use crate::answer::not_mutable;

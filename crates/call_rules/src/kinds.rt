@@ -5,7 +5,7 @@ ghost use Rattle.spl_value.specs.declared.types.SplType.TheViews.{out-SplType};
 ghost use Rattle.language_model.specs.declared.scope.Typed.{Typed};
 ghost use Rattle.language_model.specs.Typing.{Found, after, same_types, as_wanted};
 ghost use Rattle.language_model.specs.Finds.{Finds};
-ghost use Rattle.call_rules.specs.Kinds.{held_copied, integer_of, held_of, has_order};
+ghost use Rattle.call_rules.specs.steps.Kinds.{held_copied, integer_of, held_of, has_order};
 
 use language_model::{TypeAnswer, Typed, mismatch};
 use spl_tree::BinaryCode;

@@ -5,7 +5,7 @@ use Rattle.std.proofs.lemmas.Bool.{OnFalse_at, OnFalse_from, OnTrue_at, OnTrue_f
 use Rattle.std.specs.Prelude.{◌↔◌}
 use Rattle.spl_tree.specs.declared.code.Code.{Code}
 use Rattle.spl_tree.specs.declared.code.Slot.{Slot}
-use Rattle.dollar_rules.specs.Weights.{depth_in, parts_in}
+use Rattle.dollar_rules.specs.steps.Weights.{depth_in, parts_in}
 
 -- the codes before the rest are no deeper than `levels`, and their parts were taken from those that were left before
 pub record Passed (levels before after : ℕ) (all rest : List (Code Slot)) : Type 0 where

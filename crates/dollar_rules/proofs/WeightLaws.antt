@@ -15,7 +15,7 @@ use Rattle.spl_tree.specs.declared.code.Selector.{Selector}
 use Rattle.spl_tree.specs.declared.code.Selector.TheVariants as K
 use Rattle.spl_tree.specs.declared.code.Slot.{Slot}
 use Rattle.spl_tree.specs.declared.code.UnaryCode.{UnaryCode}
-use Rattle.dollar_rules.specs.Weights.{depth, depth_in, entry_codes, field_codes, greatest, inner, level_depth, level_parts, parts, parts_in, selector_codes, total}
+use Rattle.dollar_rules.specs.steps.Weights.{depth, depth_in, entry_codes, field_codes, greatest, inner, level_depth, level_parts, parts, parts_in, selector_codes, total}
 
 abbrev but_first : List ℕ → List ℕ
 but_first [] = []

@@ -3,3 +3,4 @@ pub mod Heads
 pub mod Given
 pub mod Settling
 pub mod Tables
+pub mod Weights

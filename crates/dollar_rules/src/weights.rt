@@ -2,7 +2,7 @@
 //! row of them may grow to twice as much at each step.
 ghost use Rattle.std.specs.Prelude.{◌≡◌, ◌+◌, ◌<◌, ◌≤◌, ◌&&◌, nat_le};
 ghost use Rattle.std.specs.Bool.{OnFalse, OnTrue};
-ghost use Rattle.dollar_rules.specs.Weights.{depth, depth_in, entry_codes, field_codes, parts, parts_in, selector_codes};
+ghost use Rattle.dollar_rules.specs.steps.Weights.{depth, depth_in, entry_codes, field_codes, parts, parts_in, selector_codes};
 
 use spl_tree::{Code, Selector, Slot};
 

@@ -15,7 +15,7 @@ use Rattle.spl_tree.specs.declared.statement.StmtKind.TheViews.{out-StmtKind}
 use Rattle.spl_tree.specs.declared.statement.StmtKind.TheFolds.{fold_out-StmtKind, map-StmtKind}
 use Rattle.spl_tree.specs.Trees.{Expr, Stmt, TypeExpr}
 use Rattle.language_model.specs.Declarations.{Name, Sets, Scoped, block_of, block_sets, level_statement, statement_scoped, type_sets}
-use Rattle.duplicate_rules.specs.Variables.{level_variable, own_variable}
+use Rattle.duplicate_rules.specs.steps.Variables.{level_variable, own_variable}
 
 abbrev pub inner : StmtKind → Sets
 inner s = (statement_scoped s).sets

@@ -19,7 +19,7 @@ use Rattle.language_model.specs.Recursion.{HasNoRecursion, calls_among, composit
 use Rattle.language_model.specs.Scopes.{At}
 use Rattle.language_model.proofs.FoundAnswers.{after_gives, same_Ok}
 use Rattle.graph_laws.proofs.Inlining.{IsIn, within_is, found, declared_gives}
-use Rattle.graph_laws.specs.Paths.{IsPath}
+use Rattle.graph_laws.specs.steps.Paths.{IsPath}
 use Rattle.graph_laws.proofs.Nesting.{composites_within, invoked_is_call}
 use Rattle.expansion_laws.proofs.Growing.{LiesIn, main_lies, IsReadable, IsWired, wired_main, IsInOrder}
 use Rattle.expansion_laws.proofs.Heads.{declared_none, all_readable, outputs_fit, output_made}

@@ -27,7 +27,7 @@ use Rattle.language_model.specs.DollarTargets.{composite_of, invocation_at}
 use Rattle.graph_laws.proofs.Flattening.{topo_of, made_of, op_there}
 use Rattle.language_model.proofs.Options.{mapped}
 use Rattle.graph_laws.proofs.Inlining.{IsIn, Holds, Grows, within_is, found, declared_gives, main_holds}
-use Rattle.graph_laws.specs.Paths.{IsPath}
+use Rattle.graph_laws.specs.steps.Paths.{IsPath}
 use Rattle.graph_laws.proofs.Nesting.{composites_within, invoked_is_call}
 use Rattle.graph_laws.proofs.ExpansionAnswers.{expansion_at}
 use Rattle.language_model.proofs.FoundAnswers.{after_gives, same_Ok}

@@ -15,7 +15,7 @@ use Rattle.language_model.specs.Composites.{composites, composite_named}
 use Rattle.language_model.specs.Invoking.{Body, target_of}
 use Rattle.language_model.specs.Recursion.{Caller, Calls, IsCall, Leads, directly, through, IsAcyclic, HasNoRecursion, call_among, calls_among, composite_caller, composite_callers}
 use Rattle.language_model.specs.Scopes.{At, at_place, first_from}
-use Rattle.graph_laws.specs.Paths.{IsPath}
+use Rattle.graph_laws.specs.steps.Paths.{IsPath}
 use Rattle.graph_laws.proofs.Inlining.{named}
 use Rattle.graph_laws.proofs.OneFlat.{there}
 

@@ -2,7 +2,7 @@
 ghost use Rattle.std.specs.Prelude.{◌≡◌, length};
 ghost use Rattle.std.specs.Option.{option_copied};
 ghost use Rattle.language_model.specs.DollarTargets.{arguments_of, followed, heads_of, parameter_target, target, target_in};
-ghost use Rattle.literal_sites.specs.Following.{target_seen};
+ghost use Rattle.literal_sites.specs.steps.Following.{target_seen};
 ghost use Rattle.literal_sites.specs.Sites.{followed_in};
 
 use program_tables::{SiteTable, default_named, value_named};

@@ -1,6 +1,6 @@
-pub mod Names
 pub mod Members
 pub mod Functions
 pub mod Wanted
 pub mod Takings
 pub mod LiteralAnswers
+pub mod steps

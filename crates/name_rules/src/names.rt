@@ -6,7 +6,7 @@ ghost use Rattle.spl_tree.specs.declared.code.Slot.TheVariants as L;
 ghost use Rattle.spl_value.specs.declared.types.SplType.TheVariants as S;
 ghost use Rattle.language_model.specs.Typing.{meant_typed, dollar_typed, typed};
 ghost use Rattle.language_model.specs.Finds.{Finds};
-ghost use Rattle.name_rules.specs.Names.{Holds, Means};
+ghost use Rattle.name_rules.specs.steps.Names.{Holds, Means};
 
 use crate::copying::{copy_refusal, copy_typed};
 use code_copies::boxed_copy;

@@ -6,7 +6,7 @@ use Rattle.std.proofs.lemmas.List.{get_or-set_other, get_or-set_same}
 use Rattle.std.proofs.lemmas.Option.{unwrap_or-slice_get}
 use Rattle.std.proofs.lemmas.Bool.{eqb-true, eqb-false}
 use Rattle.language_model.specs.OutputTyping.{Assigned, is_assigned, places}
-use Rattle.output_rules.specs.Marking.{Tells}
+use Rattle.output_rules.specs.steps.Marking.{Tells}
 use Rattle.spl_value.proofs.Bools.{or_false as or_none}
 
 or_over : (a b c : Bool) → (a || (b || c)) ≡ ((b || a) || c)

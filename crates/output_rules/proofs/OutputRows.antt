@@ -12,7 +12,7 @@ use Rattle.language_model.specs.OutputTyping.{Assigned, Assigns, Fills, assignme
 use Rattle.language_model.specs.Typing.{Found, after, unknown}
 use Rattle.language_model.specs.declared.answer.TypeAnswer.{TypeAnswer}
 use Rattle.language_model.specs.Finds.{Finds, with_front}
-use Rattle.output_rules.specs.Marking.{Tells}
+use Rattle.output_rules.specs.steps.Marking.{Tells}
 use Rattle.output_rules.proofs.OutputMarks.{tells_more}
 use Rattle.output_rules.proofs.OutputSteps.{front_more, front_on}
 use Rattle.language_model.proofs.FoundAnswers.{finds_by, stops}

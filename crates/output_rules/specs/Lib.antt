@@ -1,3 +1,1 @@
-pub mod Indexed
-pub mod Marking
-pub mod Collecting
+pub mod steps

@@ -11,7 +11,7 @@ use Rattle.language_model.specs.Expansion.{Inlined, Made, source}
 use Rattle.language_model.specs.Numbering.{site_at, graph_outputs, operator_at, operator_or_expansion, stream_of}
 use Rattle.composite_tables.specs.declared.made.Body.{Body}
 use Rattle.composite_tables.specs.Inputs.{Shows, AreNested}
-use Rattle.stream_numbering.specs.SiteTable.{Parts, parts_of, stream_there, row_of, row_at, filled, table_of}
+use Rattle.stream_numbering.specs.steps.SiteTable.{Parts, parts_of, stream_there, row_of, row_at, filled, table_of}
 use Rattle.stream_numbering.specs.steps.StreamTable.{Table, stream_in}
 use Rattle.stream_numbering.proofs.Outputs.{and_then_same, followed, followed_same, stream_law}
 use Rattle.stream_numbering.proofs.SiteTables.{composite_is, there_is}

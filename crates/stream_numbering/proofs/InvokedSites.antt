@@ -9,7 +9,7 @@ use Rattle.spl_tree.specs.declared.unit.Composite.{Composite}
 use Rattle.language_model.specs.declared.expansion.Operation.{Operation}
 use Rattle.language_model.specs.Numbering.{is_site}
 use Rattle.composite_tables.specs.declared.made.Body.{Body}
-use Rattle.stream_numbering.specs.SiteTable.{Parts, first_at, body_at, composite_of}
+use Rattle.stream_numbering.specs.steps.SiteTable.{Parts, first_at, body_at, composite_of}
 use Rattle.stream_numbering.proofs.Numbers.{rest_at}
 use Rattle.graph_laws.proofs.Flattening.{same_site}
 

@@ -18,7 +18,7 @@ use Rattle.composite_tables.specs.declared.made.Input.{Input}
 use Rattle.stream_numbering.specs.declared.numbering.Numbered.{Numbered}
 use Rattle.composite_tables.specs.Inputs.{Shows, AreNested, InputsStand, StandsFor}
 use Rattle.stream_numbering.specs.Numbered.{IsNumbered}
-use Rattle.stream_numbering.specs.SiteTable.{parts_of, table_of}
+use Rattle.stream_numbering.specs.steps.SiteTable.{parts_of, table_of}
 use Rattle.stream_numbering.specs.steps.StreamTable.{Table, stream_in, ops_in, row_in, input_in, expansion_in, expansions_in}
 use Rattle.stream_numbering.proofs.Filling.{at_place, table_has}
 use Rattle.stream_numbering.proofs.Outputs.{stream_law}

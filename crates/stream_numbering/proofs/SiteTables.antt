@@ -15,7 +15,7 @@ use Rattle.language_model.specs.Expansion.{Inlined, Made, source}
 use Rattle.language_model.specs.Numbering.{is_site, operator_at, expansion_at, output_place, operator_or_expansion, first_stream}
 use Rattle.composite_tables.specs.declared.made.Body.{Body}
 use Rattle.composite_tables.specs.Inputs.{Shows}
-use Rattle.stream_numbering.specs.SiteTable.{Parts, parts_of, first_at, body_at, composite_of, output_of, first_or_output, stream_there}
+use Rattle.stream_numbering.specs.steps.SiteTable.{Parts, parts_of, first_at, body_at, composite_of, output_of, first_or_output, stream_there}
 use Rattle.stream_numbering.specs.steps.StreamTable.{Table, stream_in}
 use Rattle.stream_numbering.proofs.Outputs.{and_then_same}
 

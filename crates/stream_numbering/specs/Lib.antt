@@ -1,4 +1,2 @@
-pub mod Describes
 pub mod Numbered
-pub mod SiteTable
 pub mod steps

@@ -1,1 +1,3 @@
 pub mod StreamTable
+pub mod Describes
+pub mod SiteTable

@@ -3,7 +3,7 @@ ghost use Rattle.std.specs.Prelude.{◌≡◌, ◌+◌, IfOk};
 ghost use Rattle.language_model.specs.Expansion.{Made};
 ghost use Rattle.composite_tables.specs.Inputs.{AreNested, InputsStand, Shows};
 ghost use Rattle.stream_numbering.specs.Numbered.{IsNumbered};
-ghost use Rattle.stream_numbering.specs.SiteTable.{parts_of, table_of};
+ghost use Rattle.stream_numbering.specs.steps.SiteTable.{parts_of, table_of};
 
 use crate::bodies::expansions_of;
 use crate::operators::{ops_of, streams_of};

@@ -16,7 +16,7 @@ impl Sites {
     ghost use Rattle.std.specs.Option.{option_or};
     ghost use Rattle.spl_tree.specs.declared.graph.Site.{Site};
     ghost use Rattle.language_model.specs.Numbering.{is_site};
-    ghost use Rattle.stream_numbering.specs.SiteTable.{number_at};
+    ghost use Rattle.stream_numbering.specs.steps.SiteTable.{number_at};
 
     pub(crate) fn new(alloc: Global) -> Sites
         ensures { (q : Site) → number_at result q ≡ None }

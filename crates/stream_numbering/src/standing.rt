@@ -3,7 +3,7 @@ ghost use Rattle.std.specs.Prelude.{◌≡◌, ◌++◌, [], length, map, replic
 ghost use Rattle.std.specs.Option.{option_map};
 ghost use Rattle.spl_tree.specs.declared.graph.Site.{Site};
 ghost use Rattle.language_model.specs.Numbering.{numbers_from, output_place};
-ghost use Rattle.stream_numbering.specs.SiteTable.{Parts, parts_of, number_at, first_at, body_at, composite_of, output_of, stream_there, row_of, row_at, table_of};
+ghost use Rattle.stream_numbering.specs.steps.SiteTable.{Parts, parts_of, number_at, first_at, body_at, composite_of, output_of, stream_there, row_of, row_at, table_of};
 
 use crate::numbering::sum_of;
 use crate::operators::stream_at;
@@ -60,7 +60,7 @@ pub(crate) struct Standing<'a> {
 }
 
 impl<'a> Standing<'a> {
-    ghost use Rattle.stream_numbering.specs.Describes.{Describes};
+    ghost use Rattle.stream_numbering.specs.steps.Describes.{Describes};
 
     pub(crate) fn new(
         alloc: Global,

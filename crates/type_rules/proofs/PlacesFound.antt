@@ -12,7 +12,7 @@ use Rattle.spl_tree.specs.declared.body.Statement.TheVariants as T
 use Rattle.language_model.specs.StatementTyping.{TypedPlace, assignment_typing, compound_typing, place_typing}
 use Rattle.language_model.specs.Typing.{Found, after, as_wanted, level_operator, operands_typed, typing}
 use Rattle.language_model.specs.TypingLaws.{parted}
-use Rattle.type_rules.specs.Places.{compound_value, with_kind}
+use Rattle.type_rules.specs.steps.Places.{compound_value, with_kind}
 use Rattle.language_model.proofs.FoundAnswers.{after_after}
 use Rattle.type_rules.proofs.Steps.{after_each}
 

@@ -4,7 +4,7 @@ ghost use Rattle.spl_tree.specs.declared.code.Code.TheViews.{out-Code};
 ghost use Rattle.spl_tree.specs.declared.code.Slot.{Slot};
 ghost use Rattle.language_model.specs.StatementTyping.{level_variable, level_place, place_given, place_typing};
 ghost use Rattle.language_model.specs.Finds.{Finds};
-ghost use Rattle.type_rules.specs.Places.{with_kind};
+ghost use Rattle.type_rules.specs.steps.Places.{with_kind};
 
 use crate::rules::type_of;
 use call_rules::{may_change, not_mutable};

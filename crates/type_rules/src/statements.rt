@@ -10,7 +10,7 @@ ghost use Rattle.spl_tree.specs.declared.code.Code.TheVariants as C;
 ghost use Rattle.spl_tree.specs.declared.body.Change.TheVariants as H;
 ghost use Rattle.spl_tree.specs.declared.body.Statement.TheVariants as T;
 ghost use Rattle.language_model.specs.Finds.{Finds};
-ghost use Rattle.type_rules.specs.Places.{compound_value, only};
+ghost use Rattle.type_rules.specs.steps.Places.{compound_value, only};
 
 use crate::places::{place_given, place_of};
 use crate::rules::{arguments, call, type_of};

@@ -19,7 +19,7 @@ use Rattle.language_model.specs.Typing.{Found, after, refused}
 use Rattle.language_model.specs.declared.answer.TypeAnswer.{TypeAnswer}
 use Rattle.language_model.specs.Finds.{Finds, with_front}
 use Rattle.window_rules.specs.declared.windows.measures.Measure.{Measure}
-use Rattle.window_rules.specs.Windows.{counted, differing}
+use Rattle.window_rules.specs.steps.Windows.{counted, differing}
 use Rattle.literal_sites.proofs.Answering.{IsRow}
 use Rattle.literal_sites.proofs.Lists.{some_at}
 use Rattle.language_model.proofs.FoundAnswers.{after_after, finds_by, stops}

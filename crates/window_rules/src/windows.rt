@@ -8,7 +8,7 @@ ghost use Rattle.language_model.specs.Policies.{aggregate_policy, join_policy, p
 ghost use Rattle.language_model.specs.Scopes.{first_from};
 ghost use Rattle.language_model.specs.Finds.{Finds};
 ghost use Rattle.literal_sites.specs.Sites.{numbers_at};
-ghost use Rattle.window_rules.specs.Windows.{ArePartitioned};
+ghost use Rattle.window_rules.specs.steps.Windows.{ArePartitioned};
 
 mod measures;
 mod rules;

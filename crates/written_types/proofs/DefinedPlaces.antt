@@ -11,7 +11,7 @@ use Rattle.language_model.specs.Scopes.{At, at_place}
 use Rattle.language_model.specs.TypeNames.{Names, definition_of, type_names}
 use Rattle.language_model.proofs.TypeNameLaws.{kind_names_in, map_names}
 use Rattle.language_model.proofs.DefinedTypes.{there}
-use Rattle.written_types.specs.Definitions.{places_of}
+use Rattle.written_types.specs.steps.Definitions.{places_of}
 
 -- ---- the places of names
 

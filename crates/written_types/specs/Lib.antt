@@ -1,4 +1,4 @@
 pub mod Stepping
-pub mod Definitions
 pub mod Circles
 pub mod TypeScopes
+pub mod steps

@@ -7,7 +7,7 @@ ghost use Rattle.spl_tree.specs.contracts.unit.TypeDefinition as row;
 ghost use Rattle.spl_tree.specs.declared.unit.TypeDefinition.{TypeDefinition};
 ghost use Rattle.language_model.specs.Scopes.{at_place};
 ghost use Rattle.language_model.specs.TypeNames.{definition_of};
-ghost use Rattle.written_types.specs.Definitions.{HasFirst, same_bytes};
+ghost use Rattle.written_types.specs.steps.Definitions.{HasFirst, same_bytes};
 
 use spl_tree::TypeDefinition;
 use spl_value::NoMemory;

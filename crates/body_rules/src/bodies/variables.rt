@@ -2,7 +2,7 @@
 ghost use Rattle.std.specs.Prelude.{◌≡◌, IfOk, OnErr};
 ghost use Rattle.language_model.specs.BodyFits.{with_variable};
 ghost use Rattle.language_model.specs.BodyTyping.{variable};
-ghost use Rattle.body_rules.specs.Leads.{shortened};
+ghost use Rattle.body_rules.specs.steps.Leads.{shortened};
 
 use language_model::{Scope, Variable};
 use spl_value::{Boxed, Items, Name, NoMemory, SplType};

@@ -10,7 +10,7 @@ use Rattle.language_model.specs.Expansion.{Made, Inlined, connections_of, expand
 use Rattle.language_model.specs.Invoking.{Target, Operator, Body, Nothing, target_of}
 use Rattle.language_model.specs.Recursion.{HasNoRecursion, composite_callers, calls_among}
 use Rattle.language_model.specs.Scopes.{At}
-use Rattle.graph_laws.specs.Paths.{IsPath}
+use Rattle.graph_laws.specs.steps.Paths.{IsPath}
 use Rattle.composite_expand.specs.declared.answer.ExpandAnswer.{ExpandAnswer}
 use Rattle.composite_expand.specs.declared.answer.ExpandAnswer.TheVariants as X
 use Rattle.composite_tables.specs.declared.made.Input.{Input}

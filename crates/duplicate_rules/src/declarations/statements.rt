@@ -11,7 +11,7 @@ use spl_value::Name;
 use std::alloc::Global;
 
 impl Declares for Stmt {
-    ghost use Rattle.duplicate_rules.specs.Variables.{own_variable};
+    ghost use Rattle.duplicate_rules.specs.steps.Variables.{own_variable};
 
     ghost own = { λ statement. own_variable statement.what };
 

@@ -3,7 +3,7 @@ ghost use Rattle.std.specs.Prelude.{◌≡◌, ◌<◌, ℕ, List, [], length, I
 ghost use Rattle.language_model.specs.OutputTyping.{assignment_typing, assignments_typing, places, rows_typing, with_others};
 ghost use Rattle.language_model.specs.Typing.{after};
 ghost use Rattle.language_model.specs.Finds.{Finds, with_front};
-ghost use Rattle.output_rules.specs.Marking.{Tells};
+ghost use Rattle.output_rules.specs.steps.Marking.{Tells};
 
 use super::answers::bad_output;
 use super::index::Index;

@@ -3,7 +3,7 @@ ghost use Rattle.std.specs.Prelude.{◌≡◌, ◌≤◌, IfOk, length, map};
 ghost use Rattle.language_model.specs.OutputTyping.{one_attribute, taken_over};
 ghost use Rattle.language_model.specs.Typing.{same_types};
 ghost use Rattle.language_model.specs.Finds.{Finds};
-ghost use Rattle.output_rules.specs.Indexed.{HoldsIn, attributes_in, same_schemas};
+ghost use Rattle.output_rules.specs.steps.Indexed.{HoldsIn, attributes_in, same_schemas};
 
 use super::answers::bad_output;
 use super::index::Index;

@@ -5,7 +5,7 @@ ghost use Rattle.spl_value.specs.declared.types.SplType.TheViews.{out-SplType};
 ghost use Rattle.spl_tree.specs.declared.expression.ExprKind.TheViews.{out-ExprKind};
 ghost use Rattle.language_model.specs.OutputTyping.{assigned_group, called_typing, collected, collecting_of, groups_typing, last_of, level_gathered, level_gathers, of_wanted};
 ghost use Rattle.language_model.specs.Finds.{Finds};
-ghost use Rattle.output_rules.specs.Collecting.{collecting_meant, collector_on, counted};
+ghost use Rattle.output_rules.specs.steps.Collecting.{collecting_meant, collector_on, counted};
 
 use super::assigned::{Assigned, Gives, all_given};
 use super::attributes::{Inputs, is_same};

@@ -4,7 +4,7 @@ ghost use Rattle.std.specs.HashMap.{get};
 ghost use Rattle.std.specs.Option.{option_copied};
 ghost use Rattle.language_model.specs.Scopes.{attribute_of};
 ghost use Rattle.language_model.specs.Finds.{Points};
-ghost use Rattle.output_rules.specs.Indexed.{HasFirst, place_from, same_bytes};
+ghost use Rattle.output_rules.specs.steps.Indexed.{HasFirst, place_from, same_bytes};
 
 use spl_value::{Attribute, NoMemory};
 use std::alloc::Global;

@@ -9,7 +9,7 @@ ghost use Rattle.language_model.specs.Scopes.{attribute_of};
 ghost use Rattle.language_model.specs.Typing.{after, same_types};
 ghost use Rattle.language_model.specs.Finds.{Finds};
 ghost use Rattle.literal_sites.specs.Sites.{numbers_at};
-ghost use Rattle.window_rules.specs.Windows.{counted, differing, with_kind, with_limit};
+ghost use Rattle.window_rules.specs.steps.Windows.{counted, differing, with_kind, with_limit};
 
 use super::WrittenWindow;
 use super::rules::bad_window;

@@ -5,7 +5,7 @@ ghost use Rattle.language_model.specs.declared.scope.CheckError.TheVariants as E
 ghost use Rattle.language_model.specs.Policies.{aggregate_rule, are_no_arguments, bad_window, is_word, join_rule, measured, nothing_behind, punctuated, sliding_alone, sliding_with_trigger, trigger, tumbling};
 ghost use Rattle.language_model.specs.Finds.{Finds};
 ghost use Rattle.literal_sites.specs.Sites.{numbers_at};
-ghost use Rattle.window_rules.specs.Windows.{counted, differing, slides_by, tumbles_by};
+ghost use Rattle.window_rules.specs.steps.Windows.{counted, differing, slides_by, tumbles_by};
 
 use super::WrittenWindow;
 use super::measures::{Measure, is_named, measure_of, only_count};

@@ -8,8 +8,8 @@ use Rattle.language_model.proofs.BodyTypingLaws.{assign_stated, block_stated, ca
 use Rattle.language_model.specs.StatementTyping.{call_typing}
 use Rattle.language_model.specs.Typing.{after}
 use Rattle.language_model.specs.Finds.{Finds, with_front}
-use Rattle.body_rules.specs.Choices.{block_typing, if_typing, while_typing}
-use Rattle.body_rules.specs.Leads.{shortened}
+use Rattle.body_rules.specs.steps.Choices.{block_typing, if_typing, while_typing}
+use Rattle.body_rules.specs.steps.Leads.{shortened}
 use Rattle.body_rules.specs.Settings.{purpose_meant, setting_meant}
 use Rattle.body_rules.proofs.BodyRows.{branch, branch_row, branches_row, row_on, row_past, row_stops, statements_on, statements_past, statements_stop}
 use Rattle.body_rules.proofs.StatementLeads.{alone_stops, leads_by, leads_on}

@@ -2,7 +2,7 @@ use Rattle.std.proofs.Common.{◌≡◌, ◌+◌, drop, length}
 use Rattle.language_model.specs.BodyTyping.{row_typing, arms_typing}
 use Rattle.language_model.specs.BodyTypingLaws.{row_stated, arms_stated}
 use Rattle.language_model.specs.Finds.{with_front}
-use Rattle.body_rules.specs.Leads.{shortened}
+use Rattle.body_rules.specs.steps.Leads.{shortened}
 use Rattle.body_rules.specs.Settings.{setting_meant}
 use Rattle.spl_tree.proofs.StmtWeights.{statement_weight, statement_weights, arm_weights, other_weight}
 use Rattle.body_rules.proofs.bodies.+bodies.Given as goal

@@ -1,5 +1,5 @@
 use Rattle.std.proofs.Common.{◌≡◌, take}
-use Rattle.body_rules.specs.Signatures.{with_parameters}
+use Rattle.body_rules.specs.steps.Signatures.{with_parameters}
 use Rattle.body_rules.proofs.functions.add_parameters.Given as goal
 
 abbrev pub invariant-loop-parameter : goal.invariant-loop-parameter

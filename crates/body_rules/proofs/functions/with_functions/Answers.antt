@@ -1,6 +1,6 @@
 use Rattle.std.proofs.Common.{ap, sym, take, ◌∙◌}
 use Rattle.spl_tree.specs.declared.unit.Definition.TheVariants as D
-use Rattle.body_rules.specs.Signatures.{scope_in, with_definition}
+use Rattle.body_rules.specs.steps.Signatures.{scope_in, with_definition}
 use Rattle.written_types.specs.TypeScopes.{types_in}
 use Rattle.body_rules.proofs.Signing.{no_function, scope_on}
 use Rattle.body_rules.proofs.functions.with_functions.Goals.{in-Function+in_ok-add_function, in_default}

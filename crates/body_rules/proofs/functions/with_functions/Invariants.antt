@@ -1,5 +1,5 @@
 use Rattle.std.proofs.Common.{◌≡◌, take}
-use Rattle.body_rules.specs.Signatures.{scope_in}
+use Rattle.body_rules.specs.steps.Signatures.{scope_in}
 use Rattle.written_types.specs.TypeScopes.{types_in}
 use Rattle.body_rules.proofs.functions.with_functions.Given as goal
 

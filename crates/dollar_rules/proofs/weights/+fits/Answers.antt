@@ -1,5 +1,5 @@
 use Rattle.std.proofs.Common.{◌≡◌, ◌∙◌, ◌+◌, ap, arith, sym}
-use Rattle.dollar_rules.specs.Weights.{depth, depth_in, entry_codes, field_codes, parts, parts_in}
+use Rattle.dollar_rules.specs.steps.Weights.{depth, depth_in, entry_codes, field_codes, parts, parts_in}
 use Rattle.dollar_rules.proofs.CountedParts.{counted_one, large_one, shallow_one}
 use Rattle.dollar_rules.proofs.WeightLaws.{depth-built_in, depth-call, depth-list, depth-map, depth-tuple, depth-unary, parts-built_in, parts-call, parts-list, parts-map, parts-tuple, parts-unary}
 use Rattle.dollar_rules.proofs.weights.+fits.Goals as goal

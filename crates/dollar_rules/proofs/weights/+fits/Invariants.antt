@@ -1,5 +1,5 @@
 use Rattle.std.proofs.Common.{drop}
-use Rattle.dollar_rules.specs.Weights.{entry_codes, field_codes, selector_codes}
+use Rattle.dollar_rules.specs.steps.Weights.{entry_codes, field_codes, selector_codes}
 use Rattle.dollar_rules.proofs.CountedParts.{Passed}
 use Rattle.dollar_rules.proofs.weights.+fits.Given as goal
 

@@ -1,6 +1,6 @@
 use Rattle.std.proofs.Common.{ap, ◌∙◌}
 use Rattle.language_model.specs.Numbering.{streams_from}
-use Rattle.stream_numbering.specs.SiteTable.{parts_of, table_of}
+use Rattle.stream_numbering.specs.steps.SiteTable.{parts_of, table_of}
 use Rattle.stream_numbering.specs.steps.StreamTable.{ops_in, expansions_in}
 use Rattle.stream_numbering.proofs.NumberedParts.{all_is}
 use Rattle.stream_numbering.proofs.numbering.number_streams.Goals as goal

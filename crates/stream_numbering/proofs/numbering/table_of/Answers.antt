@@ -1,5 +1,5 @@
 use Rattle.std.proofs.lemmas.Result.{IfOk-weaker}
-use Rattle.stream_numbering.specs.SiteTable.{parts_of}
+use Rattle.stream_numbering.specs.steps.SiteTable.{parts_of}
 use Rattle.stream_numbering.proofs.numbering.table_of.Goals as goal
 
 pub returns : goal.returns

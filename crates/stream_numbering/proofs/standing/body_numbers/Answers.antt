@@ -1,7 +1,7 @@
 use Rattle.std.proofs.Common.{ap, sym, ◌∙◌}
 use Rattle.std.proofs.lemmas.List.{drop_all}
 use Rattle.std.specs.Option.{option_or}
-use Rattle.stream_numbering.specs.SiteTable.{number_at, body_at}
+use Rattle.stream_numbering.specs.steps.SiteTable.{number_at, body_at}
 use Rattle.stream_numbering.proofs.InvokedSites.{site_step, no_site_step, or_nothing}
 use Rattle.stream_numbering.proofs.standing.body_numbers.Goals.{in-Some+in_ok-add, in_default}
 use Rattle.stream_numbering.proofs.standing.body_numbers.Goals as goal

@@ -1,7 +1,7 @@
 use Rattle.std.proofs.Common.{◌≡◌, drop}
 use Rattle.std.specs.Option.{option_or}
 use Rattle.spl_tree.specs.declared.graph.Site.{Site}
-use Rattle.stream_numbering.specs.SiteTable.{number_at, body_at}
+use Rattle.stream_numbering.specs.steps.SiteTable.{number_at, body_at}
 use Rattle.stream_numbering.proofs.standing.body_numbers.Given as goal
 
 abbrev pub invariant-loop-body : goal.invariant-loop-body

@@ -1,7 +1,7 @@
 use Rattle.std.proofs.Common.{ap, sym, ◌∙◌}
 use Rattle.std.proofs.lemmas.List.{drop_all}
 use Rattle.std.specs.Option.{option_or}
-use Rattle.stream_numbering.specs.SiteTable.{number_at, first_at}
+use Rattle.stream_numbering.specs.steps.SiteTable.{number_at, first_at}
 use Rattle.stream_numbering.proofs.InvokedSites.{operation_step, or_nothing}
 use Rattle.stream_numbering.proofs.standing.first_streams.Goals as goal
 

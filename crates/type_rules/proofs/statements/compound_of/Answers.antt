@@ -1,6 +1,6 @@
 use Rattle.std.proofs.Common.{Err, ap, sym}
 use Rattle.type_rules.proofs.statements.compound_of.Goals as goal
-use Rattle.type_rules.specs.Places.{compound_value}
+use Rattle.type_rules.specs.steps.Places.{compound_value}
 use Rattle.language_model.proofs.FoundAnswers.{fails, finds_by, goes, stops}
 use Rattle.type_rules.proofs.PlacesFound.{compound_law}
 

@@ -1,7 +1,7 @@
 use Rattle.std.proofs.Common.{◌≡◌, ◌≤◌, ℕ, List, drop, length, map}
 use Rattle.std.specs.Borrow.{Bor}
 use Rattle.std.specs.HashMap.{get}
-use Rattle.written_types.specs.Definitions.{place_from, same_bytes}
+use Rattle.written_types.specs.steps.Definitions.{place_from, same_bytes}
 use Rattle.written_types.proofs.definitions.first_places.Given as goal
 
 abbrev pub invariant-definitions : goal.invariant-definitions

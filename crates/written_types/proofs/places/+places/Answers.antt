@@ -1,7 +1,7 @@
 use Rattle.std.proofs.Common.{ap, sym, ◌∙◌, ◌++◌, take, append_assoc}
 use Rattle.std.specs.Prelude.{flat_map}
 use Rattle.language_model.specs.TypeNames.{type_names}
-use Rattle.written_types.specs.Definitions.{places_of}
+use Rattle.written_types.specs.steps.Definitions.{places_of}
 use Rattle.written_types.proofs.DefinedPlaces.{places_of-append, map_places}
 use Rattle.written_types.proofs.Rows.{gives_on}
 use Rattle.written_types.proofs.places.+places.Goals as goal

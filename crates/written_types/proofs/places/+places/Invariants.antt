@@ -1,7 +1,7 @@
 use Rattle.std.proofs.Common.{◌≡◌, ◌+◌, ◌*◌, ◌++◌, take}
 use Rattle.std.specs.Prelude.{flat_map}
 use Rattle.language_model.specs.TypeNames.{type_names}
-use Rattle.written_types.specs.Definitions.{places_of}
+use Rattle.written_types.specs.steps.Definitions.{places_of}
 use Rattle.written_types.proofs.places.+places.Given as goal
 
 abbrev pub invariant-add_of_attributes-loop-attribute : goal.invariant-add_of_attributes-loop-attribute

@@ -3,7 +3,7 @@ use Rattle.spl_tree.specs.declared.body.Statement.{Statement}
 use Rattle.spl_tree.specs.declared.body.Statement.TheVariants as T
 use Rattle.language_model.specs.declared.scope.Scope.{Scope}
 use Rattle.language_model.specs.BodyTyping.{first_value, variable}
-use Rattle.body_rules.specs.Leads.{shortened}
+use Rattle.body_rules.specs.steps.Leads.{shortened}
 use Rattle.body_rules.proofs.Lengths.{one_more, whole}
 use Rattle.body_rules.proofs.StatementLeads.{leads_fails}
 use Rattle.body_rules.proofs.bodies.parts.declared.Goals as goal

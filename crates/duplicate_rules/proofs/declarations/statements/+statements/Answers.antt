@@ -3,7 +3,7 @@ use Rattle.std.proofs.lemmas.Result.{IfOk-weaker}
 use Rattle.std.specs.Prelude.{filter_map, flat_map}
 use Rattle.std.specs.Option.{option_copied, option_map_or}
 use Rattle.duplicate_rules.specs.steps.Earliest.{earliest_in}
-use Rattle.duplicate_rules.specs.Variables.{own_variable}
+use Rattle.duplicate_rules.specs.steps.Variables.{own_variable}
 use Rattle.duplicate_rules.proofs.Best.{earliest_in-append, earliest_in-cons}
 use Rattle.duplicate_rules.proofs.Rows.{row_on}
 use Rattle.duplicate_rules.proofs.StatementSets.{inner, block_is, if_inner}

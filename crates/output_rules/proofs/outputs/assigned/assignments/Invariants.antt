@@ -1,7 +1,7 @@
 use Rattle.std.proofs.Common.{◌≡◌, drop, []}
 use Rattle.language_model.specs.OutputTyping.{assignments_typing, places}
 use Rattle.language_model.specs.Finds.{with_front}
-use Rattle.output_rules.specs.Marking.{Tells}
+use Rattle.output_rules.specs.steps.Marking.{Tells}
 use Rattle.output_rules.proofs.outputs.assigned.assignments.Given as goal
 
 abbrev pub invariant-loop-field : goal.invariant-loop-field

@@ -1,5 +1,5 @@
 use Rattle.std.proofs.Common.{◌≡◌, ◌≤◌, ◌-◌, length, drop, map}
-use Rattle.output_rules.specs.Indexed.{attributes_in}
+use Rattle.output_rules.specs.steps.Indexed.{attributes_in}
 use Rattle.output_rules.proofs.outputs.attributes.holder.Given as goal
 
 abbrev pub invariant-ports : goal.invariant-ports

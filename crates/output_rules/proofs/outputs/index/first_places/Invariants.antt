@@ -1,7 +1,7 @@
 use Rattle.std.proofs.Common.{◌≡◌, ◌≤◌, ℕ, List, drop, length}
 use Rattle.std.specs.Borrow.{Bor}
 use Rattle.std.specs.HashMap.{get}
-use Rattle.output_rules.specs.Indexed.{place_from, same_bytes}
+use Rattle.output_rules.specs.steps.Indexed.{place_from, same_bytes}
 use Rattle.output_rules.proofs.outputs.index.first_places.Given as goal
 
 abbrev pub invariant-attributes : goal.invariant-attributes

@@ -1,5 +1,5 @@
 use Rattle.std.proofs.Common.{◌∙◌, sym}
-use Rattle.stream_numbering.specs.SiteTable.{number_at}
+use Rattle.stream_numbering.specs.steps.SiteTable.{number_at}
 use Rattle.stream_numbering.proofs.InvokedSites.{added}
 use Rattle.stream_numbering.proofs.sites.Sites.add.Goals as goal
 

@@ -1,4 +1,4 @@
-use Rattle.stream_numbering.specs.SiteTable.{stream_there}
+use Rattle.stream_numbering.specs.steps.SiteTable.{stream_there}
 use Rattle.stream_numbering.proofs.Numbers.{map_step}
 use Rattle.stream_numbering.proofs.standing.Standing.add_outputs.Goals as goal
 

@@ -1,6 +1,6 @@
 use Rattle.std.proofs.Common.{◌≡◌, length}
-use Rattle.stream_numbering.specs.Describes.{Describes}
-use Rattle.stream_numbering.specs.SiteTable.{Parts, filled, table_of}
+use Rattle.stream_numbering.specs.steps.Describes.{Describes}
+use Rattle.stream_numbering.specs.steps.SiteTable.{Parts, filled, table_of}
 use Rattle.stream_numbering.proofs.standing.Standing.fill.Given as goal
 
 abbrev pub invariant-loop-number : goal.invariant-loop-number

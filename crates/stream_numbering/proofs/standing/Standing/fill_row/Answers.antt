@@ -1,6 +1,6 @@
 use Rattle.std.proofs.Common.{◌∙◌}
 use Rattle.language_model.specs.Numbering.{site_at}
-use Rattle.stream_numbering.specs.SiteTable.{stream_there}
+use Rattle.stream_numbering.specs.steps.SiteTable.{stream_there}
 use Rattle.stream_numbering.proofs.Numbers.{outputs_step}
 use Rattle.stream_numbering.proofs.standing.Standing.fill_row.Goals as goal
 

@@ -1,7 +1,7 @@
 use Rattle.std.proofs.Common.{◌≡◌, ◌++◌, map, drop}
 use Rattle.language_model.specs.Numbering.{outputs_from, site_at}
-use Rattle.stream_numbering.specs.Describes.{Describes}
-use Rattle.stream_numbering.specs.SiteTable.{Parts, stream_there, row_of}
+use Rattle.stream_numbering.specs.steps.Describes.{Describes}
+use Rattle.stream_numbering.specs.steps.SiteTable.{Parts, stream_there, row_of}
 use Rattle.stream_numbering.proofs.standing.Standing.fill_row.Given as goal
 
 abbrev pub invariant-loop-invocation : goal.invariant-loop-invocation

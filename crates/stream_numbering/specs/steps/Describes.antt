@@ -3,7 +3,7 @@ use Rattle.std.specs.Prelude.{◌≡◌}
 use Rattle.spl_tree.specs.declared.graph.Site.{Site}
 use Rattle.language_model.specs.Composites.{composites}
 use Rattle.stream_numbering.specs.declared.standing.Standing.{Standing}
-use Rattle.stream_numbering.specs.SiteTable.{Parts, number_at, first_at, body_at}
+use Rattle.stream_numbering.specs.steps.SiteTable.{Parts, number_at, first_at, body_at}
 
 -- it speaks of the bodies and operators of an expansion
 pub record Describes (s : Standing) (parts : Parts) : Type 0 where

@@ -1,0 +1,2 @@
+pub mod CallNames
+pub mod Kinds
