@@ -20,7 +20,8 @@ use Rattle.language_model.specs.Taking.{taken, first_untaken, is_taken}
 use Rattle.language_model.proofs.Standing.{found_first}
 use Rattle.composite_expand.specs.declared.answer.ExpandAnswer.{ExpandAnswer}
 use Rattle.composite_expand.specs.declared.answer.ExpandAnswer.TheVariants as X
-use Rattle.composite_expand.specs.Expands.{Expands, IsAnswer}
+use Rattle.composite_expand.specs.Expands.{Expands}
+use Rattle.composite_expand.specs.steps.Answers.{IsAnswer}
 use Rattle.composite_tables.specs.declared.made.Body as M
 use Rattle.composite_tables.specs.declared.made.Input.{Input}
 use Rattle.stream_numbering.specs.declared.numbering.Numbered.{Numbered}

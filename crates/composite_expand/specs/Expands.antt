@@ -1,8 +1,7 @@
 -- What is answered of a unit.
-use Rattle.std.specs.Prelude.{◌≡◌, ℕ, List, Result, Ok, Err}
+use Rattle.std.specs.Prelude.{ℕ, List, Result, Ok, Err}
 use Rattle.spl_tree.specs.declared.graph.Graph.{Graph}
 use Rattle.spl_tree.specs.declared.unit.Definition.{Definition}
-use Rattle.language_model.specs.Expansion.{Expanded}
 use Rattle.language_model.specs.Flat.{IsFlat}
 use Rattle.composite_expand.specs.declared.answer.ExpandAnswer.{ExpandAnswer}
 use Rattle.composite_expand.specs.declared.answer.ExpandAnswer.TheVariants as X
@@ -12,9 +11,3 @@ abbrev pub Expands : List Definition → List (List ℕ) → Result Graph Expand
 Expands unit names (Ok g) = IsFlat unit names (Ok g)
 Expands unit names (Err (X.Refused r)) = IsFlat unit names (Err r)
 Expands unit names (Err X.Memory) = Unit {0}
-
--- the same of what is found
-abbrev pub IsAnswer : Expanded Graph → Result Graph ExpandAnswer → Type 0
-IsAnswer found (Ok g) = found ≡ Ok g
-IsAnswer found (Err (X.Refused r)) = found ≡ Err r
-IsAnswer found (Err X.Memory) = Unit {0}

@@ -1,6 +1,5 @@
 -- What is wanted of the parts of a literal, and of an index.
 use Rattle.std.specs.Prelude.{ℕ, List, Option, Some, None, Ok, if◌then◌else◌}
-use Rattle.std.specs.Borrow.{Bor}
 use Rattle.spl_value.specs.declared.types.SplType.{SplType}
 use Rattle.spl_value.specs.declared.types.SplType.TheOpen as T
 use Rattle.spl_value.specs.declared.types.SplType.TheOpen.{SplType-F}
@@ -8,15 +7,6 @@ use Rattle.spl_value.specs.declared.types.Named.{Named}
 use Rattle.spl_tree.specs.declared.expression.Field.{Field}
 use Rattle.spl_tree.specs.declared.expression.Placed.{Placed}
 use Rattle.language_model.specs.Typing.{Wants, Anything, This, Another, Found, Part, are_distinct, gives_each, mismatch}
-
--- something of the literal's own form, or another type
-abbrev pub this_or_other : {A : Type 0} → Option A → Wants A
-this_or_other None = Another
-this_or_other (Some x) = This x
-
-abbrev pub pair_copied : {A B : Type 0} → Option (Bor A × Bor B) → Option (A × B)
-pair_copied None = None
-pair_copied (Some p) = Some (p.0.now, p.1.now)
 
 -- what is wanted of a literal at a place, where something is
 abbrev pub if_wanted : {A : Type 0} → ℕ → Wants A → Found (Option A)

@@ -7,7 +7,8 @@ ghost use Rattle.std.specs.Option.{option_copied};
 ghost use Rattle.spl_value.specs.declared.types.SplType.TheViews.{out-SplType};
 ghost use Rattle.language_model.specs.Typing.{wants_list, wants_map, wants_tuple, level_element, level_pair, level_schema, level_index, gives_each, are_distinct};
 ghost use Rattle.language_model.specs.Finds.{Finds, FindsBy};
-ghost use Rattle.name_rules.specs.Wanted.{this_or_other, pair_copied, if_wanted, schema_for, index_for};
+ghost use Rattle.name_rules.specs.Wanted.{if_wanted, schema_for, index_for};
+ghost use Rattle.name_rules.specs.steps.Wanted.{this_or_other, pair_copied};
 ghost use Rattle.name_rules.specs.LiteralAnswers.{field_for};
 ghost use Rattle.language_model.specs.TypingLaws.{field_part, field_parts};
 

@@ -7,7 +7,8 @@ use Rattle.spl_tree.specs.declared.unit.Definition.{Definition}
 use Rattle.language_model.specs.StreamTypes.{attributes_within, stream_attributes}
 use Rattle.language_model.specs.Typing.{mismatch}
 use Rattle.stream_rules.specs.declared.origins.Leads.{Leads}
-use Rattle.stream_rules.specs.Origins.{EndsAt, EndsHere, IsEnd, IsLed, flag_at, lead_at}
+use Rattle.stream_rules.specs.Circles.{flag_at}
+use Rattle.stream_rules.specs.steps.Origins.{EndsAt, EndsHere, IsEnd, IsLed, lead_at}
 use Rattle.stream_rules.proofs.StreamLeads.{step_on}
 
 module _ (unit : List Definition) (g : Graph) (leads : Leads) (led : IsLed unit g leads) where

@@ -10,7 +10,8 @@ use Rattle.spl_tree.specs.declared.unit.Definition.{Definition}
 use Rattle.language_model.specs.Leading.{leads_back}
 use Rattle.language_model.specs.StreamTypes.{named_stream, origin_attributes, attributes_within, output_of_op, stream_attributes, stream_leads}
 use Rattle.language_model.specs.Typing.{mismatch}
-use Rattle.stream_rules.specs.Origins.{Steps, TellsBack, flag_at, lead_at}
+use Rattle.stream_rules.specs.Circles.{TellsBack, flag_at}
+use Rattle.stream_rules.specs.steps.Origins.{Steps, lead_at}
 use Rattle.stream_rules.proofs.StreamLeads.{ends}
 
 past_end : (flags : List Bool) (k : ℕ) → length flags ≤ k → flag_at flags k ≡ false

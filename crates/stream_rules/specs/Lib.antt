@@ -1,4 +1,4 @@
-pub mod Origins
+pub mod Circles
 pub mod FoundStreams
 pub mod Streams
 pub mod steps

@@ -3,7 +3,7 @@ use Rattle.std.specs.Prelude.{List}
 use Rattle.spl_tree.specs.declared.graph.Graph.{Graph}
 use Rattle.spl_tree.specs.declared.unit.Definition.{Definition}
 use Rattle.stream_rules.specs.FoundStreams.{AreFound}
-use Rattle.stream_rules.specs.Origins.{TellsStreams}
+use Rattle.stream_rules.specs.Circles.{TellsStreams}
 use Rattle.stream_rules.specs.declared.streams.StreamTable.{StreamTable}
 
 -- the attributes of each stream of the graph, or its refusal, and which streams lead back to themselves

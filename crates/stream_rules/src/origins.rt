@@ -5,7 +5,8 @@ ghost use Rattle.spl_tree.specs.declared.graph.Graph.{Graph};
 ghost use Rattle.spl_tree.specs.declared.unit.Definition.{Definition};
 ghost use Rattle.language_model.specs.StreamTypes.{origin_of, stream_leads};
 ghost use Rattle.language_model.specs.Leading.{leads_back};
-ghost use Rattle.stream_rules.specs.Origins.{EndsAt, EndsHere, IsLed, Steps, TellsBack, flag_at, lead_at, origin_in, origin_seen};
+ghost use Rattle.stream_rules.specs.Circles.{TellsBack, flag_at};
+ghost use Rattle.stream_rules.specs.steps.Origins.{EndsAt, EndsHere, IsLed, Steps, lead_at, origin_in, origin_seen};
 
 use body_sites::{Body, Sites};
 use spl_tree::{Expansion, Graph, OutputStream, Site};

@@ -5,7 +5,7 @@ ghost use Rattle.language_model.specs.StreamTypes.{level_attributes, stream_attr
 ghost use Rattle.language_model.specs.TypeNames.{composite_types, shape_meant};
 ghost use Rattle.language_model.specs.Typing.{after};
 ghost use Rattle.language_model.specs.Finds.{Finds};
-ghost use Rattle.stream_rules.specs.Origins.{IsLed};
+ghost use Rattle.stream_rules.specs.steps.Origins.{IsLed};
 ghost use Rattle.stream_rules.specs.Streams.{IsTableOf};
 ghost use Rattle.stream_rules.specs.FoundStreams.{AreFound};
 

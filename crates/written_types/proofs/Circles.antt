@@ -9,7 +9,8 @@ use Rattle.language_model.specs.Leading.{leads_back}
 use Rattle.language_model.specs.Scopes.{At, at_place}
 use Rattle.language_model.specs.TypeNames.{Names, definition_of, leads_to, is_circular, shape_names}
 use Rattle.language_model.proofs.DefinedTypes.{there}
-use Rattle.written_types.specs.Circles.{TellsBack, TellsCircular, with_circle}
+use Rattle.written_types.specs.Circles.{TellsCircular}
+use Rattle.written_types.specs.steps.Circles.{TellsBack, with_circle}
 use Rattle.written_types.specs.steps.Definitions.{places_of, rows_of}
 use Rattle.written_types.specs.Stepping.{steps_from, LeadsWithin}
 use Rattle.spl_value.proofs.Lists.{map_length}

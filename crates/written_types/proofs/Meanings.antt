@@ -7,7 +7,7 @@ use Rattle.language_model.specs.Scopes.{At}
 use Rattle.language_model.specs.TypeNames.{Types, definition_of, defined_type, shape_meant, types_of}
 use Rattle.language_model.specs.Typing.{Found, unknown}
 use Rattle.language_model.proofs.DefinedTypes.{names_law}
-use Rattle.written_types.specs.Circles.{with_circle}
+use Rattle.written_types.specs.steps.Circles.{with_circle}
 
 module _ (definitions : List TypeDefinition) (outside : Types) (name : List ℕ) (at : ℕ) where
   abbrev types : Types

@@ -3,7 +3,8 @@ ghost use Rattle.std.specs.Prelude.{◌≡◌, ◌+◌, ◌++◌, ◌∷◌, [],
 ghost use Rattle.language_model.specs.TypeNames.{type_meant, shape_meant, attributes_type, types_of, written_attributes};
 ghost use Rattle.language_model.specs.Typing.{unknown};
 ghost use Rattle.language_model.specs.Finds.{Finds};
-ghost use Rattle.written_types.specs.TypeScopes.{StandsFor, types_in};
+ghost use Rattle.written_types.specs.TypeScopes.{types_in};
+ghost use Rattle.written_types.specs.steps.TypeScopes.{StandsFor};
 
 use crate::DEEPEST;
 use crate::refusals::{left_out, unknown};

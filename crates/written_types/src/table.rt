@@ -4,7 +4,8 @@ ghost use Rattle.std.specs.Coded.{coded_list};
 ghost use Rattle.spl_tree.specs.contracts.unit.TypeDefinition as row;
 ghost use Rattle.spl_tree.specs.declared.unit.TypeDefinition.{TypeDefinition};
 ghost use Rattle.language_model.specs.TypeNames.{definition_of, type_definitions};
-ghost use Rattle.written_types.specs.Circles.{TellsBack, TellsCircular, told, with_circle};
+ghost use Rattle.written_types.specs.Circles.{TellsCircular};
+ghost use Rattle.written_types.specs.steps.Circles.{TellsBack, told, with_circle};
 ghost use Rattle.written_types.specs.Stepping.{LeadsWithin};
 
 use crate::definitions::{Definitions, narrow};

@@ -4,7 +4,8 @@ use Rattle.language_model.specs.Composites.{main_of}
 use Rattle.language_model.specs.Declarations.{declared_twice}
 use Rattle.language_model.specs.Flat.{IsFlat, flat_from}
 use Rattle.language_model.specs.Recursion.{IsRecursive, IsNotRecursive, HasNoRecursion, composite_callers}
-use Rattle.composite_expand.specs.Expands.{Expands, IsAnswer}
+use Rattle.composite_expand.specs.Expands.{Expands}
+use Rattle.composite_expand.specs.steps.Answers.{IsAnswer}
 use Rattle.composite_expand.proofs.Comes.{main_starts, recursive, answered, refused}
 use Rattle.composite_expand.proofs.graph.expand.Goals as goal
 

@@ -1,7 +1,7 @@
 use Rattle.std.proofs.Common.{◌≡◌, ◌<◌, ℕ, length}
 use Rattle.std.specs.Option.{option_to_list}
 use Rattle.language_model.specs.StreamTypes.{stream_leads}
-use Rattle.stream_rules.specs.Origins.{lead_at}
+use Rattle.stream_rules.specs.steps.Origins.{lead_at}
 use Rattle.stream_rules.proofs.origins.all_leads.Given as goal
 
 abbrev pub invariant-loop-stream : goal.invariant-loop-stream

@@ -1,6 +1,7 @@
 use Rattle.std.proofs.Common.{◌≡◌, ◌<◌, ℕ, List, length}
 use Rattle.language_model.specs.Leading.{leads_back}
-use Rattle.stream_rules.specs.Origins.{Steps, flag_at}
+use Rattle.stream_rules.specs.Circles.{flag_at}
+use Rattle.stream_rules.specs.steps.Origins.{Steps}
 use Rattle.stream_rules.proofs.origins.flags.Given as goal
 
 abbrev pub invariant-loop-stream : goal.invariant-loop-stream

@@ -1,6 +1,6 @@
 use Rattle.std.proofs.Common.{◌≡◌, ℕ, List, length}
 use Rattle.language_model.specs.Leading.{leads, leads_back}
-use Rattle.stream_rules.specs.Origins.{Steps}
+use Rattle.stream_rules.specs.steps.Origins.{Steps}
 use Rattle.stream_rules.proofs.origins.leads_back.Given as goal
 
 abbrev pub invariant-steps : goal.invariant-steps

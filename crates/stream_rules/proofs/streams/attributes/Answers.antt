@@ -1,7 +1,7 @@
 use Rattle.std.proofs.Common.{◌≡◌, None, ap, sym, ◌∙◌}
 use Rattle.std.specs.Option.{option_map}
 use Rattle.language_model.specs.StreamTypes.{origin_of}
-use Rattle.stream_rules.specs.Origins.{lead_at, origin_seen}
+use Rattle.stream_rules.specs.steps.Origins.{lead_at, origin_seen}
 use Rattle.stream_rules.proofs.AnswerSteps.{refused_as, unknown_as}
 use Rattle.stream_rules.proofs.StandingOrigins.{circle_there, made_nowhere, own_there}
 use Rattle.stream_rules.proofs.streams.attributes.Goals as goal

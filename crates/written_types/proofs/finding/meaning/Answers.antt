@@ -1,7 +1,7 @@
 use Rattle.std.proofs.Common.{ap, sym, ◌∙◌}
 use Rattle.language_model.specs.TypeNames.{shape_meant}
 use Rattle.language_model.specs.Typing.{unknown}
-use Rattle.written_types.specs.Circles.{told}
+use Rattle.written_types.specs.steps.Circles.{told}
 use Rattle.written_types.specs.TypeScopes.{outside_types}
 use Rattle.written_types.proofs.Meanings.{has_none, has_shape}
 use Rattle.written_types.proofs.finding.meaning.Goals as goal

@@ -1,5 +1,6 @@
 use Rattle.std.proofs.Common.{◌-◌, ap, sym, ◌∙◌, arith}
-use Rattle.stream_rules.specs.Origins.{flag_at, lead_at}
+use Rattle.stream_rules.specs.Circles.{flag_at}
+use Rattle.stream_rules.specs.steps.Origins.{lead_at}
 use Rattle.stream_rules.proofs.LastStreams.{ends_last, last_on}
 use Rattle.stream_rules.proofs.origins.Leads.last.Goals as goal
 

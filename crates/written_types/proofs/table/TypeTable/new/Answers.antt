@@ -1,5 +1,5 @@
 use Rattle.std.proofs.Common.{sym, subst, ◌∙◌}
-use Rattle.written_types.specs.Circles.{TellsBack}
+use Rattle.written_types.specs.steps.Circles.{TellsBack}
 use Rattle.written_types.specs.Stepping.{LeadsWithin}
 use Rattle.written_types.proofs.Circles.{rows_within, tells_circular}
 use Rattle.written_types.proofs.table.TypeTable.new.Goals as goal

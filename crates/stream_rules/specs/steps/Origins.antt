@@ -1,13 +1,13 @@
 -- Where streams are made as the code has it, and which leads to which.
-use Rattle.std.specs.Prelude.{◌≡◌, ℕ, suc, Bool, true, false, List, length, Option, Some, None, slice_get, slice_index_or}
+use Rattle.std.specs.Prelude.{◌≡◌, ℕ, suc, true, List, length, Option, Some, None, slice_get}
 use Rattle.std.specs.Option.{option_and_then, option_map, option_to_list}
 use Rattle.spl_tree.specs.declared.graph.Expansion.{Expansion}
 use Rattle.spl_tree.specs.declared.graph.Graph.{Graph}
 use Rattle.spl_tree.specs.declared.graph.Site.{Site}
 use Rattle.spl_tree.specs.declared.unit.Definition.{Definition}
-use Rattle.language_model.specs.Leading.{leads_back}
 use Rattle.language_model.specs.StreamTypes.{Origin, attributes_within, stream_attributes, stream_leads}
 use Rattle.language_model.specs.Typing.{mismatch}
+use Rattle.stream_rules.specs.Circles.{TellsStreams, flag_at}
 use Rattle.stream_rules.specs.declared.origins.Leads.{Leads}
 use Rattle.stream_rules.specs.declared.origins.Origin.{Origin as Kept}
 use Rattle.body_sites.specs.Bodies.{body_at_sites, body_seen}
@@ -29,17 +29,6 @@ lead_at next place = option_and_then (λ lead. lead) (slice_get next place)
 pub record Steps (count : ℕ) (next : List (Option ℕ)) (f : ℕ → List ℕ) : Type 0 where
   pub size : length next ≡ count
   pub each : (place : ℕ) → option_to_list (lead_at next place) ≡ f place
-
-abbrev pub flag_at : List Bool → ℕ → Bool
-flag_at flags place = slice_index_or flags place false
-
--- which places lead back to themselves
-abbrev pub TellsBack : ℕ → (ℕ → List ℕ) → List Bool → Type 0
-TellsBack count f flags = (place : ℕ) → flag_at flags place ≡ leads_back count f place
-
--- which streams lead back to themselves
-abbrev pub TellsStreams : List Definition → Graph → List Bool → Type 0
-TellsStreams unit g flags = TellsBack (length g.streams) (stream_leads unit g) flags
 
 pub record IsLed (unit : List Definition) (g : Graph) (leads : Leads) : Type 0 where
   pub steps : Steps (length g.streams) leads.next.items (stream_leads unit g)
