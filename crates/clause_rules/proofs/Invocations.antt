@@ -23,21 +23,9 @@ use Rattle.language_model.specs.Parameters.{Tables, table_at}
 use Rattle.language_model.specs.StreamTypes.{Attributes, Body, body_at, outputs_attributes, passed, stream_attributes, output_heads, ports_attributes}
 use Rattle.language_model.specs.TypeNames.{Types, composite_types}
 use Rattle.language_model.specs.Typing.{Found, after, mismatch}
+use Rattle.language_model.proofs.FoundAnswers.{after_gives}
 use Rattle.clause_rules.specs.steps.Operators.{named}
 use Rattle.clause_rules.specs.steps.Programs.{invocation_in}
-
--- what comes after something that was found
-pub record Goes {A B : Type 0} (o : Found A) (f : A → Found B) (y : B) : Type 0 where
-  pub found : A
-  pub there : o ≡ Ok found
-  pub rest : f found ≡ Ok y
-
-pub goes : {A B : Type 0} (o : Found A) (f : A → Found B) (y : B) → after o f ≡ Ok y → Goes o f y
-goes (Ok x) f y e = record { found = x; there = refl; rest = e }
-goes (Err r) f y e = absurd (no e)
-  where
-    no : Err r ≡ Ok y → ⊥
-    no e = cc
 
 abbrev as_found : {A : Type 0} → A → Found A
 as_found x = Ok x
@@ -92,10 +80,10 @@ outs_length unit g b (o ∷ os) [] schemas e l = absurd (no l)
     no : 0 ≡ length (o ∷ os) → ⊥
     no l = cc
 outs_length unit g b (o ∷ os) (s ∷ outs) schemas e l =
-    let first = goes (stream_attributes unit g s) _ schemas e in
-    let heads = goes (output_heads (length g.expansions) unit g first.found b o.name.what) _ schemas first.rest in
-    let others = goes (outputs_attributes unit g b os outs) (λ rest. Ok (first.found ∷ rest)) schemas heads.rest in
-    ap length (sym (same_found (first.found ∷ others.found) schemas others.rest)) ∙ ap suc (outs_length unit g b os outs others.found others.there (less l))
+    let first = after_gives (stream_attributes unit g s) _ schemas e in
+    let heads = after_gives (output_heads (length g.expansions) unit g first.0 b o.name.what) _ schemas first.2 in
+    let others = after_gives (outputs_attributes unit g b os outs) (λ rest. Ok (first.0 ∷ rest)) schemas heads.2 in
+    ap length (sym (same_found (first.0 ∷ others.0) schemas others.2)) ∙ ap suc (outs_length unit g b os outs others.0 others.1 (less l))
   where
     less : length (s ∷ outs) ≡ length (o ∷ os) → length outs ≡ length os
     less e = cc
@@ -109,10 +97,10 @@ with_ins op i outs ins = after (outputs_checked op.kind i.outputs outs ins) (wit
 pub types_length : (unit : List Definition) (g : Graph) (b : Body) (op : Op) (i : Invocation) (types : PortTypes)
     → port_types unit g b op i ≡ Ok types → length op.outs ≡ length i.outputs → length types.outs ≡ length i.outputs
 types_length unit g b op i types e l =
-    let outs = goes (outputs_attributes unit g b i.outputs op.outs) _ types e in
-    let ins = goes (ports_attributes unit g b i.inputs op.ins) (with_ins op i outs.found) types outs.rest in
-    let fit = goes (outputs_checked op.kind i.outputs outs.found ins.found) (with_types outs.found ins.found) types ins.rest in
-    ap (λ t. length t.outs) (sym (same_found (record { ins = ins.found; outs = outs.found }) types fit.rest)) ∙ outs_length unit g b i.outputs op.outs outs.found outs.there l
+    let outs = after_gives (outputs_attributes unit g b i.outputs op.outs) _ types e in
+    let ins = after_gives (ports_attributes unit g b i.inputs op.ins) (with_ins op i outs.0) types outs.2 in
+    let fit = after_gives (outputs_checked op.kind i.outputs outs.0 ins.0) (with_types outs.0 ins.0) types ins.2 in
+    ap (λ t. length t.outs) (sym (same_found (record { ins = ins.0; outs = outs.0 }) types fit.2)) ∙ outs_length unit g b i.outputs op.outs outs.0 outs.1 l
 
 -- ---- an invocation
 

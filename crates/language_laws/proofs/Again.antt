@@ -31,8 +31,8 @@ use Rattle.language_laws.specs.Unwanted.{UnwantedLaw}
 
 -- ---- steps
 
-goes : {A B : Type 0} (r : Found A) (f : A → Found B) (x : A) (y : B) → r ≡ Ok x → f x ≡ Ok y → after r f ≡ Ok y
-goes r f x y e g = ap (λ o. after o f) e ∙ g
+after_is : {A B : Type 0} (r : Found A) (f : A → Found B) (x : A) (y : B) → r ≡ Ok x → f x ≡ Ok y → after r f ≡ Ok y
+after_is r f x y e g = ap (λ o. after o f) e ∙ g
 
 abbrev ok : {A : Type 0} → A → Found A
 ok x = Ok x
@@ -45,7 +45,7 @@ held : (at : ℕ) (r : Found Typed) (t : Typed) → after r (as_wanted at None) 
 held at r t e =
     let x = after_gives r (as_wanted at None) t e in
     let same : x.0 ≡ t = cc in
-    goes r (as_wanted at (Some t.kind)) t t (x.1 ∙ ap Ok same) (ap (λ b. if b then Ok t else mismatch at) ((same_types_law t.kind t.kind).1 refl))
+    after_is r (as_wanted at (Some t.kind)) t t (x.1 ∙ ap Ok same) (ap (λ b. if b then Ok t else mismatch at) ((same_types_law t.kind t.kind).1 refl))
 
 -- ---- lists and maps
 
@@ -60,11 +60,11 @@ list_again at scope (p ∷ ps) h t e =
     let own = typed (S.List x.0.kind) (C.List (x.0.code ∷ xs.0)) in
     let same : own ≡ t = cc in
     let first : part_typed p scope (Some x.0.kind) ≡ Ok x.0 = h.0 p.at scope x.0 x.1 in
-    let all : elements_typed scope x.0.kind (p ∷ ps) ≡ Ok (x.0.code ∷ xs.0) = goes (part_typed p scope (Some x.0.kind)) _ x.0 (x.0.code ∷ xs.0) first
-    (goes (elements_typed scope x.0.kind ps) (λ ys. Ok (x.0.code ∷ ys)) xs.0 (x.0.code ∷ xs.0) xs.1 refl) in
+    let all : elements_typed scope x.0.kind (p ∷ ps) ≡ Ok (x.0.code ∷ xs.0) = after_is (part_typed p scope (Some x.0.kind)) _ x.0 (x.0.code ∷ xs.0) first
+    (after_is (elements_typed scope x.0.kind ps) (λ ys. Ok (x.0.code ∷ ys)) xs.0 (x.0.code ∷ xs.0) xs.1 refl) in
     subst (λ (u : Typed). list_typed at scope (wants_list (Some u.kind)) (p ∷ ps) ≡ Ok u) same
     (ap (λ w. list_typed at scope (level_element w) (p ∷ ps)) (S.outs-List x.0.kind)
-    ∙ goes (elements_typed scope x.0.kind (p ∷ ps)) (λ ys. Ok (typed (S.List x.0.kind) (C.List ys))) (x.0.code ∷ xs.0) own all refl)
+    ∙ after_is (elements_typed scope x.0.kind (p ∷ ps)) (λ ys. Ok (typed (S.List x.0.kind) (C.List ys))) (x.0.code ∷ xs.0) own all refl)
 
 map_again : (at : ℕ) (scope : Scope) (es : List (Placed Part × Placed Part)) → AllByRecursion (λ e. Again e.0.what × Again e.1.what) es → (t : Typed)
     → map_typed at scope Anything es ≡ Ok t → map_typed at scope (wants_map (Some t.kind)) es ≡ Ok t
@@ -80,12 +80,12 @@ map_again at scope (p ∷ ps) h t e =
     let key : part_typed p.0 scope (Some x.0.kind) ≡ Ok x.0 = h.0.0 p.0.at scope x.0 x.1 in
     let value : part_typed p.1 scope (Some y.0.kind) ≡ Ok y.0 = h.0.1 p.1.at scope y.0 y.1 in
     let all : entries_typed scope x.0.kind y.0.kind (p ∷ ps) ≡ Ok codes =
-    goes (part_typed p.0 scope (Some x.0.kind)) _ x.0 codes key
-    (goes (part_typed p.1 scope (Some y.0.kind)) _ y.0 codes value
-    (goes (entries_typed scope x.0.kind y.0.kind ps) (λ ys. Ok (entry ∷ ys)) xs.0 codes xs.1 refl)) in
+    after_is (part_typed p.0 scope (Some x.0.kind)) _ x.0 codes key
+    (after_is (part_typed p.1 scope (Some y.0.kind)) _ y.0 codes value
+    (after_is (entries_typed scope x.0.kind y.0.kind ps) (λ ys. Ok (entry ∷ ys)) xs.0 codes xs.1 refl)) in
     subst (λ (u : Typed). map_typed at scope (wants_map (Some u.kind)) (p ∷ ps) ≡ Ok u) same
     (ap (λ w. map_typed at scope (level_pair w) (p ∷ ps)) (S.outs-Map x.0.kind y.0.kind)
-    ∙ goes (entries_typed scope x.0.kind y.0.kind (p ∷ ps)) (λ ys. Ok (typed (S.Map x.0.kind y.0.kind) (C.Map ys))) codes own all refl)
+    ∙ after_is (entries_typed scope x.0.kind y.0.kind (p ∷ ps)) (λ ys. Ok (typed (S.Map x.0.kind y.0.kind) (C.Map ys))) codes own all refl)
 
 -- ---- tuples
 
@@ -139,10 +139,10 @@ fields_again scope schema i (f ∷ fs) own e distinct h from =
     let here : attribute_of schema f.name.what ≡ Some (at_place i attribute) =
     moved.0 ∙ ap (λ b. if b then Some (at_place i attribute) else first_from (λ a. bytes_eq a.name f.name.what) (suc i) rest.0.0) (same_name f.name.what) in
     let own_code : field_typed scope schema f (attribute_of schema f.name.what) ≡ Ok code =
-    ap (field_typed scope schema f) here ∙ goes {B = ℕ × Code Slot} (part_typed f.value scope (Some x.0.kind)) (λ y. Ok (i, y.code)) x.0 code (h.0 f.value.at scope x.0 x.1) refl in
+    ap (field_typed scope schema f) here ∙ after_is {B = ℕ × Code Slot} (part_typed f.value scope (Some x.0.kind)) (λ y. Ok (i, y.code)) x.0 code (h.0 f.value.at scope x.0 x.1) refl in
     subst (AreGiven scope schema (f ∷ fs)) same record {
-      fields = goes (field_typed scope schema f (attribute_of schema f.name.what)) (λ y. after (fields_typed scope schema fs) (λ ys. Ok (y ∷ ys))) code (code ∷ rest.0.1) own_code
-          (goes (fields_typed scope schema fs) (λ ys. Ok (code ∷ ys)) rest.0.1 (code ∷ rest.0.1) others.fields refl);
+      fields = after_is (field_typed scope schema f (attribute_of schema f.name.what)) (λ y. after (fields_typed scope schema fs) (λ ys. Ok (y ∷ ys))) code (code ∷ rest.0.1) own_code
+          (after_is (fields_typed scope schema fs) (λ ys. Ok (code ∷ ys)) rest.0.1 (code ∷ rest.0.1) others.fields refl);
       found = (λ j. is_some (here j) && others.found j);
       count = ap suc others.count;
     }
@@ -172,7 +172,7 @@ tuple_again at scope fs h t e =
         subst (λ (u : Typed). tuple_typed at scope (wants_tuple (Some u.kind)) fs ≡ Ok u) same
         (ap (λ w. tuple_typed at scope (level_schema w) fs) (S.outs-Tuple schema)
         ∙ ap (λ b. if b then after (fields_typed scope schema fs) (λ xs. Ok (typed (S.Tuple schema) (C.Tuple xs))) else mismatch at) each
-        ∙ goes (fields_typed scope schema fs) (λ xs. Ok (typed (S.Tuple schema) (C.Tuple xs))) x.0.1 own_type given.fields refl)
+        ∙ after_is (fields_typed scope schema fs) (λ xs. Ok (typed (S.Tuple schema) (C.Tuple xs))) x.0.1 own_type given.fields refl)
 
 -- ---- conditionals
 
@@ -184,9 +184,9 @@ conditional_again scope c a b h t e =
     let own = typed y.0.kind (C.Conditional x.0.code y.0.code z.0.code) in
     let same : own ≡ t = cc in
     subst (λ (u : Typed). conditional_typed scope (Some u.kind) c a b ≡ Ok u) same
-    (goes (part_typed c scope (Some S.Bool)) _ x.0 own x.1
-    (goes (part_typed a scope (Some y.0.kind)) _ y.0 own (h a.at scope y.0 y.1)
-    (goes (part_typed b scope (Some y.0.kind)) (λ w. Ok (typed y.0.kind (C.Conditional x.0.code y.0.code w.code))) z.0 own z.1 refl)))
+    (after_is (part_typed c scope (Some S.Bool)) _ x.0 own x.1
+    (after_is (part_typed a scope (Some y.0.kind)) _ y.0 own (h a.at scope y.0 y.1)
+    (after_is (part_typed b scope (Some y.0.kind)) (λ w. Ok (typed y.0.kind (C.Conditional x.0.code y.0.code w.code))) z.0 own z.1 refl)))
 
 -- ---- expressions
 

@@ -14,8 +14,8 @@ use Rattle.language_model.proofs.FoundAnswers.{after_after, finds_by, stops}
 use Rattle.spl_value.proofs.Lists.{drop_at}
 
 -- what is said of an error that `?` returns
-pub fails : {B : Type 0} (o p : Found B) (r : Result B TypeAnswer) (e : TypeAnswer) → IsErrAnd r (λ y. y ≡ e) → o ≡ p → Finds p (Err e) → Finds o r
-fails o p r e h same g = let q = finds_by o p (Err e) same g in let w = err_from_is_err_and r h in subst (Finds o) (sym (w.1 ∙ ap Err w.2)) q
+pub fails_by : {B : Type 0} (o p : Found B) (r : Result B TypeAnswer) (e : TypeAnswer) → IsErrAnd r (λ y. y ≡ e) → o ≡ p → Finds p (Err e) → Finds o r
+fails_by o p r e h same g = let q = finds_by o p (Err e) same g in let w = err_from_is_err_and r h in subst (Finds o) (sym (w.1 ∙ ap Err w.2)) q
 
 pub refuses : (A : Type 0) (error : CheckError) (at : ℕ) (name : List ℕ) (a : TypeAnswer) → IsRefused error at name a → Finds (refused {A = A} error at (Some name)) (Err a)
 refuses A error at name (Refused r) h = ap Err (sym h)

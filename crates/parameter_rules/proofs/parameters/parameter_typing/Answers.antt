@@ -7,7 +7,7 @@ use Rattle.language_model.specs.declared.scope.CheckError.TheVariants as E
 use Rattle.language_model.specs.ParameterTyping.{role_of, value_typing}
 use Rattle.language_model.specs.Typing.{after, refused}
 use Rattle.literal_sites.specs.Sites.{site_seen}
-use Rattle.literal_sites.proofs.Answering.{fails, refuses}
+use Rattle.literal_sites.proofs.Answering.{fails_by, refuses}
 use Rattle.literal_sites.proofs.Lists.{any_key}
 use Rattle.parameter_rules.proofs.Giving.{parameter_once, parameter_twice}
 use Rattle.parameter_rules.proofs.parameters.parameter_typing.Goals as goal
@@ -33,7 +33,7 @@ returns-in_err-value c =
     let before = reverse (map (λ g. g.name) c.args.given.now) in
     let is = ap (role_of c.args.kind c.args.partitioned) (sym c.as_slice-name.ensures) ∙ sym c.in-Some.ensures in
     let had = any_key {A = Given} (λ n. bytes_eq n c.as_slice-name.result.now) (λ g. g.name) c.args.given.now ∙ sym c.is_given.ensures ∙ c.if-is_given.false in
-    fails _ _ _ c.in_err-value.field-0.0 c.from_residual-in_err-value.ensures.1
+    fails_by _ _ _ c.in_err-value.field-0.0 c.from_residual-in_err-value.ensures.1
     (parameter_once site before p _ role is (ap (λ name. list_any (λ n. bytes_eq n name) before) (sym c.as_slice-name.ensures) ∙ had))
     (stops (value_typing site p role) (λ value. Ok (record { name = p.name.what; value = value })) c.in_err-value.field-0.0 c.in_err-value.ensures)
 

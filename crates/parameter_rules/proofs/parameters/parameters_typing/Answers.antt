@@ -3,7 +3,7 @@ use Rattle.std.proofs.Common.{ap, sym, ◌∙◌}
 use Rattle.language_model.specs.ParameterTyping.{parameters_typing}
 use Rattle.language_model.specs.Finds.{with_front}
 use Rattle.literal_sites.specs.Sites.{site_seen}
-use Rattle.literal_sites.proofs.Answering.{fails, row_on, row_stops}
+use Rattle.literal_sites.proofs.Answering.{fails_by, row_on, row_stops}
 use Rattle.parameter_rules.proofs.Giving.{parameter_behind, parameters_row}
 use Rattle.literal_sites.proofs.Lists.{keys_more}
 use Rattle.parameter_rules.proofs.parameters.parameters_typing.Goals as goal
@@ -14,7 +14,7 @@ returns-in_err-next c =
     let site = site_seen c.args.site.now in
     let given = c.loop-parameter.given in
     let e = c.in_err-next.field-0.0 in
-    fails _ _ _ e c.from_residual.ensures.1 c.loop-parameter.invariant
+    fails_by _ _ _ e c.from_residual.ensures.1 c.loop-parameter.invariant
     (row_stops (parameter_behind site c.args.kind c.args.partitioned) (parameters_typing site c.args.kind c.args.partitioned) (λ g. g.name)
     (parameters_row site c.args.kind c.args.partitioned) c.args.parameters.now c.loop-parameter.parameter-index given
     (reverse (map (λ g. g.name) given)) c.parameter-item.result c.loop-parameter-test.true c.parameter-item.is e

@@ -7,7 +7,7 @@ use Rattle.language_model.specs.Checking.{policy_of}
 use Rattle.language_model.specs.Scopes.{at_place, first_from}
 use Rattle.language_model.specs.Typing.{after}
 use Rattle.literal_sites.specs.Sites.{numbers_at}
-use Rattle.literal_sites.proofs.Answering.{fails, refuses}
+use Rattle.literal_sites.proofs.Answering.{fails_by, refuses}
 use Rattle.window_rules.proofs.Windowing.{window_once, window_twice}
 use Rattle.window_rules.proofs.windows.window_of.Goals as goal
 use Rattle.language_model.proofs.FoundAnswers.{finds_by, stops}
@@ -34,7 +34,7 @@ returns-in_err-policy c =
     let port = c.in-Some.port.now in
     let named : first_from (λ p. bytes_eq p.name c.args.window.now.port.what) 0 ports ≡ Some (at_place place port) =
     ap (λ name. first_from (λ p. bytes_eq p.name name) 0 ports) (sym c.as_slice-name.ensures) ∙ c.in-Some.ensures ∙ ap (λ n. Some (at_place n port)) (sym c.in_ok-place.ensures) in
-    fails _ _ _ c.in_err-policy.field-0.0 c.from_residual-in_err-policy.ensures.1
+    fails_by _ _ _ c.in_err-policy.field-0.0 c.from_residual-in_err-policy.ensures.1
     (window_once policy given c.args.window.now _ place port named (sym c.has_window.ensures ∙ c.if-has_window.false))
     (stops (policy port c.args.window.now) (λ x. Ok (place, x)) c.in_err-policy.field-0.0 c.in_err-policy.ensures)
 
