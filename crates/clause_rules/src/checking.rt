@@ -5,7 +5,7 @@ ghost use Rattle.language_model.specs.Flat.{IsFlat};
 ghost use Rattle.language_model.specs.Numbering.{numbers_from};
 ghost use Rattle.language_model.specs.Parameters.{dollar_tables};
 ghost use Rattle.stream_rules.specs.Streams.{IsTableOf};
-ghost use Rattle.language_model.specs.Finds.{Finds, Narrows};
+ghost use Rattle.language_model.specs.Finds.{Finds};
 ghost use Rattle.clause_rules.specs.steps.Programs.{AreInvoked, found_in};
 
 use crate::operators::{Program, operators_checked};
@@ -14,7 +14,7 @@ use body_sites::Sites;
 use check_laws::keeps_law;
 use dollar_rules::dollar_tables;
 use graph_laws::flat_law;
-use language_model::{Checked, CheckedClauses, TypeAnswer};
+use language_model::{Checked, CheckedClauses, TypeAnswer, narrow};
 use spl_tree::{Graph, Unit};
 use spl_value::{Items, Schema};
 use std::alloc::Global;
@@ -28,16 +28,6 @@ pub type CheckAnswer = TypeAnswer;
 struct Found {
     parts: Items<CheckedClauses>,
     schemas: Items<Schema>,
-}
-
-/// A number of streams. More than 32 bits count aren't in memory.
-fn narrow(count: usize) -> Result<u32, TypeAnswer>
-    ensures { Narrows count result }
-{
-    match u32::try_from(count) {
-        Ok(narrow) => Ok(narrow),
-        Err(_) => Err(TypeAnswer::Memory),
-    }
 }
 
 /// The attributes of each stream.
