@@ -15,7 +15,7 @@ use Rattle.language_model.specs.Numbering.{numbers_from}
 use Rattle.language_model.specs.Parameters.{dollar_tables}
 use Rattle.language_model.specs.Scopes.{At}
 use Rattle.language_model.specs.Typing.{Found, after}
-use Rattle.clause_rules.specs.declared.checking.Found.{Found as Parts}
+use Rattle.clause_rules.specs.declared.checking.PartsAndSchemas.{PartsAndSchemas}
 use Rattle.clause_rules.specs.steps.Programs.{AreInvoked, found_in}
 
 -- a graph is that from a main composite on
@@ -50,10 +50,10 @@ regrouped (Ok a) (Ok b) pair h = refl
 regrouped (Ok a) (Err r) pair h = refl
 regrouped (Err r) p pair h = refl
 
-abbrev pub whole : Graph → List Function → Parts → CheckedGraph
+abbrev pub whole : Graph → List Function → PartsAndSchemas → CheckedGraph
 whole g functions found = record { graph = g; schemas = found.schemas; functions = functions; parts = found.parts }
 
-pub checked_is : (unit : List Definition) (g : Graph) (functions : List Function) (found : Parts) → functions_typing unit ≡ Ok functions → found_in unit g ≡ Ok found
+pub checked_is : (unit : List Definition) (g : Graph) (functions : List Function) (found : PartsAndSchemas) → functions_typing unit ≡ Ok functions → found_in unit g ≡ Ok found
     → checked unit g ≡ Ok (whole g functions found)
 checked_is unit g functions found typed is =
     ap (λ o. after o (λ fs. after (operators_checked unit g (dollar_tables unit g.expansions) g.ops) (λ parts.

@@ -25,7 +25,7 @@ pub type CheckAnswer = TypeAnswer;
 
 /// The parts of a graph's operators, and the attributes of its streams.
 #[derive(Drop)]
-struct Found {
+struct PartsAndSchemas {
     parts: Items<CheckedClauses>,
     schemas: Items<Schema>,
 }
@@ -73,7 +73,11 @@ fn parts_of<'a>(
 }
 
 /// What is found of the operators and of the streams.
-fn found_of<'a>(alloc: Global, unit: &'a Unit, graph: &'a Graph) -> Result<Found, TypeAnswer>
+fn found_of<'a>(
+    alloc: Global,
+    unit: &'a Unit,
+    graph: &'a Graph,
+) -> Result<PartsAndSchemas, TypeAnswer>
     requires { AreInvoked unit.now graph.now }
     ensures { Finds (found_in unit.now graph.now) result }
 {
@@ -82,7 +86,7 @@ fn found_of<'a>(alloc: Global, unit: &'a Unit, graph: &'a Graph) -> Result<Found
     let streams = StreamTable::new(alloc, &sites, graph)?;
     let parts = parts_of(alloc, graph, &sites, &streams)?;
     let schemas = each_stream(alloc, &sites, graph, &streams)?;
-    Ok(Found { parts, schemas })
+    Ok(PartsAndSchemas { parts, schemas })
 }
 
 /// The checked graph of a unit whose graph this is.
@@ -99,7 +103,7 @@ pub fn check(alloc: Global, unit: &Unit, graph: Graph) -> Result<Checked, CheckA
     keeps_law();
     flat_law();
     let functions = functions_of(alloc, unit)?;
-    let Found { parts, schemas } = found_of(alloc, unit, &graph)?;
+    let PartsAndSchemas { parts, schemas } = found_of(alloc, unit, &graph)?;
     Ok(Checked {
         graph,
         schemas,

@@ -12,8 +12,8 @@ use Rattle.language_model.specs.DollarTargets.{followed}
 use Rattle.language_model.specs.Numbering.{numbers_from}
 use Rattle.language_model.specs.Parameters.{dollar_tables}
 use Rattle.language_model.specs.StreamTypes.{Body, body_at}
-use Rattle.language_model.specs.Typing.{Found as Finding, after}
-use Rattle.clause_rules.specs.declared.checking.Found.{Found}
+use Rattle.language_model.specs.Typing.{Found, after}
+use Rattle.clause_rules.specs.declared.checking.PartsAndSchemas.{PartsAndSchemas}
 use Rattle.clause_rules.specs.declared.operators.Program.{Program}
 
 abbrev pub program_unit : Program → List Definition
@@ -28,14 +28,14 @@ abbrev pub IsBody : List Definition → Graph → Body → Type 0
 IsBody unit g b = body_at unit g b.number ≡ Some b
 
 -- an operator whose `$` parameters and functions are those of the scope
-abbrev pub invocation_in : List Definition → Graph → Scope → Op → Body → Invocation → Finding CheckedClauses
+abbrev pub invocation_in : List Definition → Graph → Scope → Op → Body → Invocation → Found CheckedClauses
 invocation_in unit g scope op b i =
     after (ports_checked op i) (λ u. after (port_types unit g b op i) (λ types.
     let own = record scope { ports = ports_of i.inputs types.ins } in
     clauses_checked op (record { scope = own; follow = followed unit g.expansions b.number }) (surroundings unit b i own types.outs) i.clauses))
 
 -- the parts of the operators and the attributes of the streams
-abbrev pub found_in : List Definition → Graph → Finding Found
+abbrev pub found_in : List Definition → Graph → Found PartsAndSchemas
 found_in unit g =
     after (operators_checked unit g (dollar_tables unit g.expansions) g.ops) (λ parts.
     after (each_stream unit g (numbers_from 0 (length g.streams))) (λ schemas. Ok (record { parts = parts; schemas = schemas })))
