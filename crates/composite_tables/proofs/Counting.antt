@@ -18,7 +18,7 @@ use Rattle.composite_tables.specs.declared.made.Input.{Input}
 use Rattle.composite_tables.specs.declared.made.Taken.TheVariants as T
 use Rattle.composite_tables.specs.declared.inputs.Counted.{Counted}
 use Rattle.composite_tables.specs.Inputs.{AreInputs, StandsFor, IsTakenBefore, IsBody}
-use Rattle.composite_tables.specs.steps.Reading.{Counts, PortsStand}
+use Rattle.composite_tables.specs.steps.Reading.{CountsSources, PortsStand}
 use Rattle.composite_tables.proofs.Extending.{input_before, stands_before}
 use Rattle.spl_value.proofs.Lists.{append_cases as at_or_last}
 
@@ -60,7 +60,7 @@ handed_on xs number (m ∷ []) n i some one here stands =
 handed_on xs number (m ∷ k ∷ ns) n i some one here stands = absurd (omega arith)
 
 pub of_port : (xs : List Inlined) (site : Site) (port : ℕ) (names : List (Placed (List ℕ))) (counted : Counted) → port_names xs site port ≡ names
-    → Counts counted (flat_map (λ n. sources_of xs site.expansion n.what) names)
+    → CountsSources counted (flat_map (λ n. sources_of xs site.expansion n.what) names)
     → StandsFor xs (suc site.expansion) (record { count = counted.count; first = counted.first; taken = T.Port site port }) (flat_map (λ n. sources_of xs site.expansion n.what) names)
 of_port xs site port names counted is counts = record {
   count = counts.count;

@@ -3,7 +3,7 @@ ghost use Rattle.std.specs.Prelude.{◌≡◌, ◌+◌, ◌^◌, ℕ, suc, min, 
 ghost use Rattle.std.specs.List.{sum_by};
 ghost use Rattle.std.specs.Option.{option_or};
 ghost use Rattle.composite_tables.specs.Inputs.{AreInputs, StandsFor, IsBody};
-ghost use Rattle.composite_tables.specs.steps.Reading.{Counts};
+ghost use Rattle.composite_tables.specs.steps.Reading.{CountsSources};
 ghost use Rattle.language_model.specs.Expansion.{Inlined, sources_of, port_names, ports_of};
 
 use crate::made::{Input, Taken};
@@ -47,7 +47,7 @@ struct Counted {
 
 impl Counted {
     fn and(self, more: Counted) -> Counted
-        ensures { (xs ys : List Source) → Counts self xs → Counts more ys → Counts result (xs ++ ys) }
+        ensures { (xs ys : List Source) → CountsSources self xs → CountsSources more ys → CountsSources result (xs ++ ys) }
     {
         Counted {
             count: self.count.saturating_add(more.count).min(MOST_COUNTED),
@@ -59,7 +59,7 @@ impl Counted {
 /// What the names of a port take, counted.
 fn count_of(scope: &Scope<'_>, number: u32, row: &[Input], names: &[Placed<Name>]) -> Counted
     ensures { (xs : List Inlined) → IsBody xs number scope.now.composite.now row.now
-        → Counts result (flat_map (λ n. sources_of xs number n.what) names.now) }
+        → CountsSources result (flat_map (λ n. sources_of xs number n.what) names.now) }
 {
     let mut all = Counted {
         count: 0,

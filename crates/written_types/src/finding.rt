@@ -4,7 +4,7 @@ ghost use Rattle.language_model.specs.TypeNames.{type_meant, shape_meant, attrib
 ghost use Rattle.language_model.specs.Typing.{unknown};
 ghost use Rattle.language_model.specs.Finds.{Finds};
 ghost use Rattle.written_types.specs.TypeScopes.{types_in};
-ghost use Rattle.written_types.specs.steps.TypeScopes.{StandsFor};
+ghost use Rattle.written_types.specs.steps.TypeScopes.{NameMeans};
 
 use crate::DEEPEST;
 use crate::refusals::{left_out, unknown};
@@ -54,7 +54,7 @@ fn meaning<'t, 'u>(
     scope: &TypeScope<'t, 'u>,
     name: &[u8],
 ) -> Option<(TypeScope<'t, 'u>, &'u TypeDefinition)>
-    ensures { StandsFor (types_in scope.now) name.now result }
+    ensures { NameMeans (types_in scope.now) name.now result }
 {
     if let Some((definition, circular)) = scope.own.definition(name) {
         return if circular {

@@ -17,7 +17,7 @@ use Rattle.composite_tables.specs.declared.sources.Reading.{Reading}
 use Rattle.composite_tables.specs.Inputs.{StandsFor}
 
 -- how many there are in a list, as far as they are counted, and the first
-pub record Counts (counted : Counted) (list : List Source) : Type 0 where
+pub record CountsSources (counted : Counted) (list : List Source) : Type 0 where
   pub count : counted.count ≡ min (length list) (2 ^ 30)
   pub first : option_to_list counted.first ≡ take 1 list
 

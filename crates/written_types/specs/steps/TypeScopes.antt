@@ -8,6 +8,6 @@ use Rattle.written_types.specs.declared.finding.TypeScope.{TypeScope}
 use Rattle.written_types.specs.TypeScopes.{types_in}
 
 -- the name means nothing, or what that shape means there
-abbrev pub StandsFor : Types → List ℕ → Option (TypeScope × Bor TypeDefinition) → Type 0
-StandsFor types name None = (at : ℕ) → types at name ≡ unknown at name
-StandsFor types name (Some p) = (at : ℕ) → types at name ≡ shape_meant (types_in p.0) p.1.now.shape
+abbrev pub NameMeans : Types → List ℕ → Option (TypeScope × Bor TypeDefinition) → Type 0
+NameMeans types name None = (at : ℕ) → types at name ≡ unknown at name
+NameMeans types name (Some p) = (at : ℕ) → types at name ≡ shape_meant (types_in p.0) p.1.now.shape
