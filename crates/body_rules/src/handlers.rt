@@ -3,43 +3,19 @@ ghost use Rattle.std.specs.Prelude.{◌≡◌, ◌<◌, ◌==◌, ◌&&◌, ◌�
 ghost use Rattle.std.specs.Str.{bytes_eq};
 ghost use Rattle.language_model.specs.declared.scope.Port.{Port};
 ghost use Rattle.language_model.specs.BodyTyping.{body_typing};
-ghost use Rattle.language_model.specs.declared.scope.CheckError.TheVariants as E;
-ghost use Rattle.language_model.specs.LogicTyping.{event_word, handler_of, is_event};
+ghost use Rattle.language_model.specs.LogicTyping.{handler_of, is_event};
 ghost use Rattle.language_model.specs.Scopes.{first_from};
-ghost use Rattle.language_model.specs.Typing.{refused, unknown};
 ghost use Rattle.body_rules.specs.Settings.{setting_meant};
 ghost use Rattle.language_model.specs.Finds.{Finds};
 ghost use Rattle.body_rules.specs.Handling.{handled_in, handlers_in, seen_scope};
 
 use crate::bodies::{BodySetting, body_of};
-use language_model::{CheckError, Handled, Port, Scope, TypeAnswer, narrow, port_named, refuse};
+use crate::refusals::{handled_twice, unknown};
+use language_model::{Handled, Port, Scope, TypeAnswer, narrow, port_named};
 use spl_tree::{Body, HandledEvent, Handler, Placed, Stmt};
 use spl_value::Items;
 use std::alloc::Global;
 use std::mem::replace;
-
-/// A port that no input has as its name.
-fn unknown<T>(alloc: Global, at: u32, name: &[u8]) -> Result<T, TypeAnswer>
-    ensures { Finds (unknown at name.now) result }
-{
-    refuse(alloc, CheckError::Unknown, at, name)
-}
-
-fn event_word(event: HandledEvent) -> &'static [u8]
-    ensures { result.now ≡ event_word event }
-{
-    match event {
-        HandledEvent::Tuple => b"onTuple",
-        HandledEvent::Punctuation => b"onPunct",
-    }
-}
-
-/// A second handler of an event.
-fn handled_twice<T>(alloc: Global, at: u32, event: HandledEvent) -> Result<T, TypeAnswer>
-    ensures { Finds (refused E.ExtraParameter at (Some (event_word event))) result }
-{
-    refuse(alloc, CheckError::ExtraParameter, at, event_word(event))
-}
 
 fn is_event(one: HandledEvent, other: HandledEvent) -> bool
     ensures { result ≡ is_event one other }

@@ -4,6 +4,7 @@
 mod bodies;
 mod functions;
 mod handlers;
+mod refusals;
 
 pub use bodies::{BodyPurpose, BodySetting, body_of, ends_with_result};
 pub use functions::{functions_of, scope_of_unit};

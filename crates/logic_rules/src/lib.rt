@@ -3,6 +3,7 @@
 
 mod by_port;
 mod plain_codes;
+mod refusals;
 mod state;
 mod state_values;
 

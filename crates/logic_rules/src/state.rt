@@ -1,30 +1,20 @@
 //! The variables of the state of a Custom.
-ghost use Rattle.std.specs.Prelude.{◌≡◌, IfOk, Some, codes, map};
+ghost use Rattle.std.specs.Prelude.{◌≡◌, IfOk, map};
 ghost use Rattle.std.specs.Option.{option_copied};
-ghost use Rattle.language_model.specs.declared.scope.CheckError.TheVariants as E;
 ghost use Rattle.language_model.specs.LogicTyping.{state_typing, state_value, state_variable};
-ghost use Rattle.language_model.specs.Typing.{refused};
 ghost use Rattle.language_model.specs.Parameters.{constant_scope};
 ghost use Rattle.written_types.specs.TypeScopes.{types_in};
 ghost use Rattle.language_model.specs.Finds.{Finds};
 
+use crate::refusals::left_out;
 use crate::state_values::is_state_value;
-use language_model::{
-    CheckError, Dollar, Scope, Signatures, StateVariable, TypeAnswer, Typed, Variable, refuse,
-};
+use language_model::{Dollar, Scope, Signatures, StateVariable, TypeAnswer, Typed, Variable};
 use spl_tree::{Code, Declaration, Expr, Slot};
 use spl_value::{Items, NoMemory, SplType, copy_type, default_of};
 use std::alloc::Global;
 use std::mem::replace;
 use type_rules::type_of;
 use written_types::{TypeScope, type_of_written};
-
-/// A first value of the state that isn't made of literals.
-fn left_out<T>(alloc: Global, at: u32) -> Result<T, TypeAnswer>
-    ensures { Finds (refused E.LeftOut at (Some (codes "state"))) result }
-{
-    refuse(alloc, CheckError::LeftOut, at, b"state".as_slice())
-}
 
 /// Where these `$` parameters alone can be named.
 fn constant_scope(alloc: Global, dollars: Items<Dollar>) -> Scope

@@ -1,9 +1,9 @@
 //! What the attributes of an operator's output get.
-mod answers;
 mod assigned;
 mod attributes;
 mod groups;
 mod index;
+mod refusals;
 mod tuples;
 mod unions;
 

@@ -5,8 +5,8 @@ ghost use Rattle.language_model.specs.Typing.{after};
 ghost use Rattle.language_model.specs.Finds.{Finds, with_front};
 ghost use Rattle.output_rules.specs.steps.Marking.{Tells};
 
-use super::answers::bad_output;
 use super::index::Index;
+use super::refusals::bad_output;
 use language_model::{Port, TypeAnswer, narrow, unknown};
 use spl_tree::{Expr, Field, OutputAssignments};
 use spl_value::{Attribute, Items, SplType};

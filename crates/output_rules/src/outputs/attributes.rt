@@ -5,8 +5,8 @@ ghost use Rattle.language_model.specs.Typing.{same_types};
 ghost use Rattle.language_model.specs.Finds.{Finds};
 ghost use Rattle.output_rules.specs.steps.Indexed.{HoldsIn, attributes_in, same_schemas};
 
-use super::answers::bad_output;
 use super::index::Index;
+use super::refusals::bad_output;
 use language_model::{Port, Scope, TypeAnswer, narrow};
 use spl_tree::{Code, Slot};
 use spl_value::{Attribute, NoMemory, SplType, same_type};

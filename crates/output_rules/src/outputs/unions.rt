@@ -3,9 +3,9 @@ ghost use Rattle.std.specs.Prelude.{Ok};
 ghost use Rattle.language_model.specs.OutputTyping.{inputs_typing, places_typing};
 ghost use Rattle.language_model.specs.Finds.{Finds};
 
-use super::answers::bad_output;
 use super::attributes::is_same;
 use super::index::Index;
+use super::refusals::bad_output;
 use language_model::{Port, TypeAnswer, narrow};
 use spl_value::{Attribute, Items, Places};
 use std::alloc::Global;

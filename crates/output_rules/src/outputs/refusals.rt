@@ -1,4 +1,4 @@
-//! What is answered where an output has no meaning.
+//! Refusals of outputs.
 ghost use Rattle.std.specs.Prelude.{◌≡◌, None};
 ghost use Rattle.language_model.specs.declared.scope.CheckError.TheVariants as E;
 ghost use Rattle.language_model.specs.declared.answer.TypeAnswer.TheVariants.{Refused};
