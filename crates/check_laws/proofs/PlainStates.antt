@@ -1,8 +1,9 @@
 -- What the variables of a state hold first is a code of literals, `-`, lists, maps and tuples.
-use Rattle.std.specs.Prelude.{◌≡◌, ◌&&◌, ℕ, zero, suc, pos, nat_lt, Bool, true, false, IsTrue, List, [], ◌∷◌, Option, Some, None, Ok, Err, slice_get, codes}
+use Rattle.std.specs.Prelude.{◌≡◌, ◌&&◌, ℕ, zero, suc, pos, nat_lt, Bool, true, IsTrue, List, [], ◌∷◌, Option, Some, None, Ok, Err, slice_get, codes}
 use Rattle.std.specs.List.{AllByRecursion, list_all}
 use Rattle.std.specs.Cmp.{first_so, second_so}
 use Rattle.std.proofs.Common.{refl, sym, ap, subst, ◌∙◌}
+use Rattle.std.proofs.lemmas.Bool.{and_from}
 use Rattle.spl_value.specs.declared.types.Named.{Named}
 use Rattle.spl_value.specs.declared.types.SplType.{SplType}
 use Rattle.spl_value.specs.declared.types.SplType.TheVariants as S
@@ -121,12 +122,6 @@ tuple_state given fs = state_level given (E.Tuple fs) (X.Tuple fs) (E.outs-Tuple
     along [] = refl
     along (f ∷ fs) = ap (λ b. is_state_value given f.value && b) (along fs)
 
--- ---- tests
-
-both_so : (a b : Bool) → a ≡ true → b ≡ true → (a && b) ≡ true
-both_so true b h g = g
-both_so false b h g = absurd cc
-
 -- ---- what typing gives
 
 abbrev Plain : Typed → Type 0
@@ -168,7 +163,7 @@ prefixes_minus (p ∷ ps) operand t h =
     gives_after Minuses Minuses (prefixes_typed ps operand t) _ (prefixes_minus ps operand t (second_so (is_minus_prefix p) (list_all is_minus_prefix ps) h)) (λ xs rest.
     gives_after Minus Minuses (prefix_typed (prefixes_at ps operand) (level_prefix p.what (out-SplType xs.1))) _
     (prefix_minus (prefixes_at ps operand) p.what (out-SplType xs.1) (first_so (is_minus_prefix p) (list_all is_minus_prefix ps) h)) (λ x one.
-    both_so (is_minus x.0) (list_all is_minus xs.0) one rest))
+    and_from (is_minus x.0) (list_all is_minus xs.0) one rest))
 
 -- ---- parts
 
@@ -202,7 +197,7 @@ module _ (scope : Scope) where
   elements_plain t (e ∷ es) h =
       gives_after Plain Plains (part_typed e scope (Some t)) _ (h.0 (Some t)) (λ x f.
       gives_after Plains Plains (elements_typed scope t es) _ (elements_plain t es h.1) (λ xs g.
-      both_so (is_plain x.code) (list_all is_plain xs) f g))
+      and_from (is_plain x.code) (list_all is_plain xs) f g))
 
   list_plain : (at : ℕ) (wants : Wants SplType) (es : List (Placed Part)) → AllByRecursion Good es → Gives Plain (list_typed at scope wants es)
   list_plain at Another es h = tt
@@ -212,7 +207,7 @@ module _ (scope : Scope) where
   list_plain at Anything (e ∷ es) h =
       gives_after Plain Plain (part_typed e scope None) _ (h.0 None) (λ x f.
       gives_after Plains Plain (elements_typed scope x.kind es) _ (elements_plain x.kind es h.1) (λ xs g.
-      list_code (x.code ∷ xs) ∙ both_so (is_plain x.code) (list_all is_plain xs) f g))
+      list_code (x.code ∷ xs) ∙ and_from (is_plain x.code) (list_all is_plain xs) f g))
 
   entries_plain : (k t : SplType) (es : List (Placed Part × Placed Part)) → AllByRecursion GoodEntry es → Gives PlainEntries (entries_typed scope k t es)
   entries_plain k t [] h = refl
@@ -220,7 +215,7 @@ module _ (scope : Scope) where
       gives_after Plain PlainEntries (part_typed e.0 scope (Some k)) _ (h.0.0 (Some k)) (λ x f.
       gives_after Plain PlainEntries (part_typed e.1 scope (Some t)) _ (h.0.1 (Some t)) (λ y g.
       gives_after PlainEntries PlainEntries (entries_typed scope k t es) _ (entries_plain k t es h.1) (λ xs rest.
-      both_so (is_plain x.code && is_plain y.code) (list_all plain_entry xs) (both_so (is_plain x.code) (is_plain y.code) f g) rest)))
+      and_from (is_plain x.code && is_plain y.code) (list_all plain_entry xs) (and_from (is_plain x.code) (is_plain y.code) f g) rest)))
 
   map_plain : (at : ℕ) (wants : Wants (SplType × SplType)) (es : List (Placed Part × Placed Part)) → AllByRecursion GoodEntry es
       → Gives Plain (map_typed at scope wants es)
@@ -233,7 +228,7 @@ module _ (scope : Scope) where
       gives_after Plain Plain (part_typed e.1 scope None) _ (h.0.1 None) (λ y g.
       gives_after PlainEntries Plain (entries_typed scope x.kind y.kind es) _ (entries_plain x.kind y.kind es h.1) (λ xs rest.
       map_code ((x.code, y.code) ∷ xs)
-      ∙ both_so (is_plain x.code && is_plain y.code) (list_all plain_entry xs) (both_so (is_plain x.code) (is_plain y.code) f g) rest)))
+      ∙ and_from (is_plain x.code && is_plain y.code) (list_all plain_entry xs) (and_from (is_plain x.code) (is_plain y.code) f g) rest)))
 
   field_plain : (schema : List (Named SplType)) (f : Field (Placed Part)) (o : Option (At (Named SplType))) → GoodField f → Gives PlainField (field_typed scope schema f o)
   field_plain schema f None h = tt
@@ -244,14 +239,14 @@ module _ (scope : Scope) where
   fields_plain schema (f ∷ fs) h =
       gives_after PlainField PlainFields (field_typed scope schema f (attribute_of schema f.name.what)) _ (field_plain schema f (attribute_of schema f.name.what) h.0) (λ x g.
       gives_after PlainFields PlainFields (fields_typed scope schema fs) _ (fields_plain schema fs h.1) (λ xs rest.
-      both_so (is_plain x.1) (list_all plain_field xs) g rest))
+      and_from (is_plain x.1) (list_all plain_field xs) g rest))
 
   own_plain : (i : ℕ) (fs : List (Field (Placed Part))) → AllByRecursion GoodField fs → Gives PlainOwn (own_fields scope i fs)
   own_plain i [] h = refl
   own_plain i (f ∷ fs) h =
       gives_after Plain PlainOwn (part_typed f.value scope None) _ (h.0 None) (λ x g.
       gives_after PlainOwn PlainOwn (own_fields scope (suc i) fs) _ (own_plain (suc i) fs h.1) (λ xs rest.
-      both_so (is_plain x.code) (list_all plain_field xs.1) g rest))
+      and_from (is_plain x.code) (list_all plain_field xs.1) g rest))
 
   tuple_plain : (at : ℕ) (wants : Wants (List (Named SplType))) (fs : List (Field (Placed Part))) → AllByRecursion GoodField fs
       → Gives Plain (tuple_typed at scope wants fs)
@@ -267,7 +262,7 @@ module _ (scope : Scope) where
   unary_plain ps e minus h =
       gives_after Plain Plain (part_typed e scope None) _ (h None) (λ x f.
       gives_after Minuses Plain (prefixes_typed ps e.at x.kind) _ (prefixes_minus ps e.at x.kind minus) (λ xs g.
-      unary_code xs.0 x.code ∙ both_so (list_all is_minus xs.0) (is_plain x.code) g f))
+      unary_code xs.0 x.code ∙ and_from (list_all is_minus xs.0) (is_plain x.code) g f))
 
 -- ---- expressions
 

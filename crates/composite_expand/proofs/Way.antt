@@ -25,7 +25,8 @@ use Rattle.composite_tables.specs.Inputs.{Shows, AreNested, InputsStand}
 use Rattle.composite_expand.specs.steps.Walking.{Frame, frame, closed, resumed, Keeps, IsIdle}
 use Rattle.composite_expand.specs.steps.Walks.{IsFrame, IsAround, Tracks, place_of_frame, IsWay, IsIdleSoFar, Waits, AreIdle, AreMarks, StandsThere, IsOn, Front, IsFurther, IsNew}
 use Rattle.composite_expand.proofs.Resuming.{closes, goes_on, refuses, opens, idle_body, idle_more, keeps_grown, keeps_next}
-use Rattle.spl_value.proofs.Lists.{next_rest}
+use Rattle.program_tables.proofs.Snoc.{take_snoc}
+use Rattle.spl_value.proofs.Lists.{append_last, next_rest}
 
 -- with no body on the way all is done
 frames_done : (unit : List Definition) (names : List ℕ) (fs : List Frame) → Tracks unit names [] fs → fs ≡ []
@@ -143,19 +144,11 @@ went_on unit main w v o p os at i made here is on names keeps idle same holds = 
 
 -- ---- a composite that is known to make nothing
 
-take_next : {A : Type 0} (xs : List A) (n : ℕ) (x : A) → slice_get xs n ≡ Some x → take (suc n) xs ≡ take n xs ++ x ∷ []
-take_next [] n x is = absurd (no_item n is) where
-  no_item : (n : ℕ) → slice_get [] n ≡ Some x → ⊥
-  no_item zero is = cc
-  no_item (suc n) is = cc
-take_next (y ∷ ys) zero x is = let same : y ≡ x = cc in ap (λ z. z ∷ []) same
-take_next (y ∷ ys) (suc n) x is = ap (λ zs. y ∷ zs) (take_next ys n x is)
-
 idle_next : (unit : List Definition) (f : Frame) (made : Made) (i : Invocation) (d : At Composite) → slice_get f.opened.body.composite.what.graph f.next ≡ Some i
     → first_of (undeclared unit f.opened.body.composite.what i) ≡ None → target_of unit i.operator.what ≡ Body d → fits_head d.what i ≡ true
     → IsIdle unit d.what d.what.graph → IsIdleSoFar unit f made → IsIdleSoFar unit (frame_on f) made
 idle_next unit f made i d here known target fits inner so_far same =
-    subst (IsIdle unit f.opened.body.composite.what) (sym (take_next f.opened.body.composite.what.graph f.next i here))
+    subst (IsIdle unit f.opened.body.composite.what) (sym (take_snoc f.next f.opened.body.composite.what.graph i here))
     (idle_more unit f.opened.body.composite.what (take f.next f.opened.body.composite.what.graph) i d known target fits inner (so_far same))
 
 pub passed_over : (unit : List Definition) (main : At Composite) (w v : Walk) (o p : Opened) (os : List Opened) (at : Front unit main w o os) (i : Invocation) (d : At Composite)
@@ -393,10 +386,6 @@ stands_more xs x (f ∷ fs) all = (more xs f.opened.number all.0, stands_more xs
   more (y ∷ ys) zero is = is
   more (y ∷ ys) (suc k) is = more ys k is
 
-last_there : (xs : List Inlined) (x : Inlined) → slice_get (xs ++ x ∷ []) (length xs) ≡ Some x
-last_there [] x = refl
-last_there (y ∷ ys) x = last_there ys x
-
 new_frame : (unit : List Definition) (w : Walk) (o q : Opened) (f : Frame) (i : Invocation) (c : At Composite) (made : Made) (names : List ℕ) → IsFrame unit w.names.items o f
     → IsNew q made c names → slice_get (composites unit) c.place ≡ Some c.what → names ≡ take o.prefix w.names.items ++ invocation_name i ++ codes "."
     → IsFrame unit names q (frame (opened_in f.opened f.next i c made) 0 made)
@@ -467,7 +456,7 @@ opened unit main w v o p q os at i c here known target fits there call deep on n
           path = (call, at.path);
           keeps = Keeps.within g (frame_on at.f) at.fs (with_expansion x at.made) (omega arith) (λ _. refl) (keeps_next at.f at.fs at.made (suc at.f.next) at.keeps);
           waits = ((λ _. IsIdle.nothing c.what), ((λ inner. idle_next unit at.f at.made i c here known target fits inner at.idle), waits_on unit at.f at.fs at.waits));
-          there = (last_there at.made.expansions x, ((stands_more at.made.expansions x (at.f ∷ []) (at.there, tt)).0, stands_more at.made.expansions x at.fs at.others));
+          there = (append_last at.made.expansions x, ((stands_more at.made.expansions x (at.f ∷ []) (at.there, tt)).0, stands_more at.made.expansions x at.fs at.others));
           marks = holds.marks;
           ops = holds.ops;
           bodies = holds.bodies;

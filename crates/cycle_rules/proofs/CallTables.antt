@@ -10,11 +10,7 @@ use Rattle.language_model.specs.Recursion as D
 use Rattle.language_model.specs.Recursion.{call_among, calls_among}
 use Rattle.cycle_rules.specs.declared.recursion.Caller.{Caller}
 use Rattle.cycle_rules.specs.steps.Named.{caller_seen, callers_seen, place_from, found_place}
-
-drop_step : {A : Type 0} (n : ℕ) (xs : List A) (x : A) → slice_get xs n ≡ Some x → drop n xs ≡ x ∷ drop (suc n) xs
-drop_step n [] x e = cc
-drop_step zero (y ∷ ys) x e = let s : y ≡ x = cc in ap (λ z. z ∷ ys) s
-drop_step (suc n) (y ∷ ys) x e = drop_step n ys x e
+use Rattle.spl_value.proofs.Lists.{next_rest}
 
 map_if : {A B : Type 0} (f : A → B) (b : Bool) (x : A) (o : Option A) → option_map f (if b then Some x else o) ≡ cond b (Some (f x)) (option_map f o)
 map_if f true x o = refl
@@ -37,7 +33,7 @@ pub table_more : (get get' : List ℕ → Option ℕ) (callers : List Caller) (n
 table_more get get' callers n c name e named put h q =
     put q ∙ ap (λ m. update bytes_eq get m (Some n) q) named ∙ ap (λ o. cond (bytes_eq c.name.now q) (Some n) o) (h q)
     ∙ sym (map_if (λ a. a.place) (bytes_eq c.name.now q) (at_place n (caller_seen c)) (first_from (λ d. bytes_eq d.name q) (suc n) (callers_seen (drop (suc n) callers))))
-    ∙ ap (λ cs. place_from n (callers_seen cs) q) (sym (drop_step n callers c e))
+    ∙ ap (λ cs. place_from n (callers_seen cs) q) (sym (next_rest callers n c e))
 
 option_map_twice : {A B C : Type 0} (f : A → B) (g : B → C) (o : Option A) → option_map g (option_map f o) ≡ option_map (λ x. g (f x)) o
 option_map_twice f g None = refl

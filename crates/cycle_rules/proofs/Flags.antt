@@ -18,9 +18,6 @@ use Rattle.std.proofs.Math.Bool.{and_assoc}
 
 -- ---- rows
 
-swapped : (a b c : Bool) → (a && (b && c)) ≡ ((a && b) && c)
-swapped a b c = sym (and_assoc a b c)
-
 marked : (r f a : Bool) → (f && a) ≡ (((if r then f else true) && a) && f)
 marked true true true = refl
 marked true true false = refl
@@ -39,7 +36,7 @@ covers_from-set n (r ∷ row) flags zero h =
     ∙ ap (λ k. covers_from n (r ∷ row) flags && get_or flags k false) (omega arith)
 covers_from-set n (r ∷ row) flags (suc m) h =
     ap (λ b. (if r then get_or flags n false else true) && b) (covers_from-set (suc n) row flags m (omega arith))
-    ∙ swapped (if r then get_or flags n false else true) (covers_from (suc n) row flags) (get_or flags (suc n + m) false)
+    ∙ sym (and_assoc (if r then get_or flags n false else true) (covers_from (suc n) row flags) (get_or flags (suc n + m) false))
     ∙ ap (λ k. covers_from n (r ∷ row) flags && get_or flags k false) (omega arith)
 
 -- a row without flags
