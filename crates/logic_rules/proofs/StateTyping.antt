@@ -12,7 +12,7 @@ use Rattle.language_model.specs.LogicTyping.{is_state_value, state_typing, state
 use Rattle.language_model.specs.Parameters.{constant_scope}
 use Rattle.language_model.specs.TypeNames.{Types}
 use Rattle.language_model.specs.Typing.{Found, refused}
-use Rattle.logic_rules.proofs.FoundRows.{IsRow}
+use Rattle.type_rules.proofs.FoundRows.{IsRow}
 
 module _ (given : List Dollar) (t : SplType) (e : Expr) where
   abbrev choice : Bool → Found (Code Slot)

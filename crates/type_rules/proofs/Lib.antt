@@ -5,3 +5,4 @@ mod LiteralLaws
 mod CallLaws
 mod PlacesFound
 mod WantedForms
+pub mod FoundRows

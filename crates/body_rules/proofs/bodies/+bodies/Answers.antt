@@ -11,7 +11,8 @@ use Rattle.language_model.specs.Finds.{Finds, with_front}
 use Rattle.body_rules.specs.steps.Choices.{block_typing, if_typing, while_typing}
 use Rattle.body_rules.specs.steps.Leads.{shortened}
 use Rattle.body_rules.specs.Settings.{purpose_meant, setting_meant}
-use Rattle.body_rules.proofs.BodyRows.{branch, branch_row, branches_row, row_on, row_past, row_stops, statements_on, statements_past, statements_stop}
+use Rattle.type_rules.proofs.FoundRows.{row_on, row_past, row_stops}
+use Rattle.body_rules.proofs.BodyRows.{branch, branch_row, branches_row, statements_on, statements_past, statements_stop}
 use Rattle.body_rules.proofs.StatementLeads.{alone_stops, leads_by, leads_on}
 use Rattle.body_rules.proofs.Lengths.{one_more, still, whole}
 use Rattle.body_rules.proofs.Stopping.{branch_stops, other_stops, over_stops, repeated_stops, while_stops}

@@ -1,7 +1,7 @@
 use Rattle.std.proofs.Common.{◌∙◌}
 use Rattle.language_model.specs.LogicTyping.{state_typing, state_variable}
 use Rattle.written_types.specs.TypeScopes.{types_in}
-use Rattle.logic_rules.proofs.FoundRows.{row_on, row_stops}
+use Rattle.type_rules.proofs.FoundRows.{row_on, row_stops}
 use Rattle.logic_rules.proofs.StateTyping.{state_row}
 use Rattle.logic_rules.proofs.state.state_of.Goals as goal
 use Rattle.language_model.proofs.FoundAnswers.{fails, finds_by}
