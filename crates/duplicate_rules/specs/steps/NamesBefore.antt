@@ -5,10 +5,8 @@ use Rattle.std.specs.Str.{bytes_eq}
 use Rattle.std.specs.Borrow.{Bor}
 use Rattle.std.specs.HashSet.{contains}
 use Rattle.language_model.specs.Declarations.{Name, is_same, repeated_after}
+use Rattle.program_tables.specs.Names.{same_bytes}
 use Rattle.duplicate_rules.specs.declared.declarations.names.NamesBefore.{NamesBefore}
-
-abbrev pub same_bytes : Bor (List ℕ) → Bor (List ℕ) → Bool
-same_bytes x y = bytes_eq x.now y.now
 
 -- it has the names that come before, and no other
 abbrev pub Hold : NamesBefore → List Name → Type 0
