@@ -1,4 +1,3 @@
 pub mod Sites
 pub mod Names
 pub mod Bodies
-pub mod SameBodies

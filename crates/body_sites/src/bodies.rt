@@ -1,6 +1,6 @@
 //! Bodies of expansions.
 ghost use Rattle.std.specs.Prelude.{◌≡◌};
-ghost use Rattle.body_sites.specs.SameBodies.{same_composite};
+ghost use Rattle.program_tables.specs.SameComposites.{same_composite};
 
 mod naming;
 

@@ -8,7 +8,7 @@ ghost use Rattle.language_model.specs.TypeNames.{type_definitions};
 ghost use Rattle.body_sites.specs.Bodies.{body_at_sites, body_seen};
 ghost use Rattle.program_tables.specs.Names.{HoldsNames};
 ghost use Rattle.body_sites.specs.Names.{type_names_of};
-ghost use Rattle.body_sites.specs.SameBodies.{same_composites};
+ghost use Rattle.program_tables.specs.SameComposites.{same_composites};
 ghost use Rattle.body_sites.specs.Sites.{MeansTypes};
 
 use crate::bodies::Body;

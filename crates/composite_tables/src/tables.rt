@@ -2,7 +2,8 @@
 ghost use Rattle.std.specs.Prelude.{◌≡◌, IfOk, map, slice_get, length};
 ghost use Rattle.std.specs.Option.{option_map};
 ghost use Rattle.program_tables.specs.Names.{HoldsNames};
-ghost use Rattle.composite_tables.specs.Names.{composite_names, same_composites};
+ghost use Rattle.program_tables.specs.SameComposites.{same_composites};
+ghost use Rattle.composite_tables.specs.Names.{composite_names};
 ghost use Rattle.language_model.specs.Composites.{composites, composite_named};
 ghost use Rattle.language_model.specs.Expansion.{place_of};
 ghost use Rattle.language_model.specs.Scopes.{at_place};

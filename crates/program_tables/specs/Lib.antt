@@ -1,3 +1,4 @@
 pub mod Names
 pub mod Mentioned
+pub mod SameComposites
 pub mod steps
