@@ -56,9 +56,10 @@ use Rattle.port_reacts.specs.PortReplies.{MayTakeAt, RepliesAt, WhereOut}
 use Rattle.port_reacts.proofs.Replying.{none_faulted, outs_fit, replies_by}
 use Rattle.aggregate_op.specs.declared.clauses.Clauses.{Clauses}
 use Rattle.port_reacts.specs.Evaluation.{idle}
-use Rattle.aggregate_op.specs.Arguments.{ArgumentFits, ArgumentsFit, blank}
-use Rattle.aggregate_op.specs.Standing.{AggregateStands, came_into, operator_of}
-use Rattle.aggregate_op.specs.steps.Firing.{MayCome, events_after, item_makes, key_of_tuple, tuple_behind, tuple_event}
+use Rattle.aggregate_op.specs.Arguments.{blank}
+use Rattle.aggregate_op.specs.steps.Arguments.{ArgumentFits, ArgumentsFit}
+use Rattle.aggregate_op.specs.Standing.{AggregateStands, came_into, operator_of, key_of_tuple, tuple_behind}
+use Rattle.aggregate_op.specs.steps.Firing.{MayCome, events_after, item_makes, tuple_event}
 use Rattle.aggregate_op.specs.steps.Giving.{contents_given}
 use Rattle.port_reacts.proofs.Answering.{both_out, where_out}
 use Rattle.aggregate_op.proofs.Ties.{IsRight, contents_are}

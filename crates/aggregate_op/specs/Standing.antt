@@ -1,20 +1,28 @@
 -- The histories by ports that an Aggregate stands for: its window stands for what came on its port, where each tuple has the values of its
 -- arguments after it.
 use Rattle.std.specs.Prelude.{◌≡◌, true, List, length}
+use Rattle.spl_value.specs.declared.value.Value.{Value}
 use Rattle.language_model.specs.declared.checked.CheckedClauses.TheVariants as A
 use Rattle.language_model.specs.declared.env.Env.{Env}
 use Rattle.stream_model.specs.CheckedMeaning.{operator_with}
 use Rattle.stream_model.specs.Operators.{Operator, input_attributes}
 use Rattle.stream_model.specs.PortEvents.{items_of}
 use Rattle.stream_model.specs.Stream.{Event}
-use Rattle.stream_model.specs.Windows.{WindowEvent, window_events}
+use Rattle.stream_model.specs.Windows.{WindowEvent, partition_key, window_events}
 use Rattle.stream_model.specs.WindowLaws.{mapped}
 use Rattle.window_policy.specs.declared.window.Window.{Window}
 use Rattle.window_policy.specs.Standing.{Stands}
 use Rattle.port_reacts.specs.PortReplies.{goes_on}
 use Rattle.aggregate_op.specs.declared.clauses.Clauses.{Clauses}
 use Rattle.port_reacts.specs.Evaluation.{idle}
-use Rattle.aggregate_op.specs.steps.Firing.{key_of_tuple, tuple_behind}
+use Rattle.aggregate_op.specs.Arguments.{extended}
+
+-- the key of a tuple, and the tuple as it goes into the window
+abbrev pub key_of_tuple : Clauses → List Value → List Value
+key_of_tuple clauses t = partition_key clauses.window.now clauses.partition.now t
+
+abbrev pub tuple_behind : Clauses → List Value → List Value
+tuple_behind clauses t = extended clauses.at.checked.now.functions clauses.output.now t
 
 -- the operator with these clauses
 abbrev pub operator_of : Clauses → Operator

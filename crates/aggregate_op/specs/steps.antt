@@ -1,3 +1,4 @@
 pub mod Evaluating
 pub mod Firing
 pub mod Giving
+pub mod Arguments

@@ -5,7 +5,8 @@ ghost use Rattle.stream_model.specs.Aggregates.{argument as argument_of, argumen
 ghost use Rattle.stream_model.specs.Bodies.{at_tuple, most_turns};
 ghost use Rattle.value_operations.specs.Answers.{Answers};
 ghost use Rattle.port_reacts.specs.Evaluation.{idle};
-ghost use Rattle.aggregate_op.specs.Arguments.{ArgumentFits, ArgumentsFit, blank};
+ghost use Rattle.aggregate_op.specs.Arguments.{blank};
+ghost use Rattle.aggregate_op.specs.steps.Arguments.{ArgumentFits, ArgumentsFit};
 ghost use Rattle.aggregate_op.specs.steps.Evaluating.{EvaluatesTo, ExtendsAs};
 
 use expr_eval::eval;

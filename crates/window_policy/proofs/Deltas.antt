@@ -7,7 +7,8 @@ use Rattle.circular_buffer.specs.Buffer.{last_item}
 use Rattle.spl_value.specs.declared.value.Value.{Value}
 use Rattle.spl_value.proofs.Lists.{get_below}
 use Rattle.stream_model.specs.Windows.{integer_at}
-use Rattle.window_policy.specs.steps.Deltas.{is_left, passed, RisesBehind, Rises}
+use Rattle.window_policy.specs.Deltas.{RisesBehind, Rises}
+use Rattle.window_policy.specs.steps.Deltas.{is_left, passed}
 
 -- ---- where the attribute rises
 

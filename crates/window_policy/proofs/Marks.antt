@@ -12,7 +12,8 @@ use Rattle.stream_model.specs.Windows.{WindowEvent, Mark, tuples_with, keys_of, 
 use Rattle.spl_value.proofs.KeyOrder.{is_each_key}
 use Rattle.stream_model.proofs.Contents.{come_is}
 use Rattle.window_policy.specs.declared.part.Part.{Part}
-use Rattle.window_policy.specs.steps.Parts.{At, taken}
+use Rattle.window_policy.specs.Parts.{At}
+use Rattle.window_policy.specs.steps.Parts.{taken}
 use Rattle.window_policy.proofs.Windows.{came_where}
 
 -- ---- what is taken of the parts

@@ -9,8 +9,8 @@ use Rattle.stream_model.proofs.Contents.{sliding_count_law, tumbling_count_inser
 use Rattle.window_policy.specs.Answers.{firing_of}
 use Rattle.window_policy.specs.declared.fired.Fired.{Fired}
 use Rattle.window_policy.specs.declared.part.Part.{Part}
-use Rattle.window_policy.specs.steps.Deltas.{Rises}
-use Rattle.window_policy.specs.steps.Parts.{CountsTo, Keeps}
+use Rattle.window_policy.specs.Deltas.{Rises}
+use Rattle.window_policy.specs.Parts.{CountsTo, Keeps}
 
 -- the tuples of a key alone, as a history
 own_tuples : (ts : List (List Value)) → tuples_with [] (map (Insert []) ts) ≡ ts

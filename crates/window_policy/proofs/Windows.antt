@@ -10,7 +10,7 @@ use Rattle.stream_model.specs.Windows.{WindowEvent, Insert, Mark, tuples_with, r
 use Rattle.spl_value.proofs.KeyOrder.{same_key-equal, same_key-itself}
 use Rattle.stream_model.proofs.Contents.{come_is}
 use Rattle.key_maps.specs.MapKeys.{equal_key}
-use Rattle.window_policy.specs.steps.Parts.{At, Keeps, noted_or}
+use Rattle.window_policy.specs.Parts.{At, Keeps, noted_or}
 use Rattle.window_policy.specs.declared.part.Part.{Part}
 use Rattle.key_maps.proofs.MapKeys.{key_tie, key_turned}
 

@@ -1,3 +1,5 @@
 pub mod Answers
 pub mod Standing
+pub mod Parts
+pub mod Deltas
 pub mod steps

@@ -9,7 +9,7 @@ use Rattle.stream_model.specs.Windows.{WindowEvent, tuples_with, relevant, has_c
 use Rattle.window_policy.specs.declared.window.Window.{Window}
 use Rattle.window_policy.specs.Answers.{IsAllowed}
 use Rattle.key_maps.specs.MapKeys.{equal_key}
-use Rattle.window_policy.specs.steps.Parts.{At, NewestAt, noted_or}
+use Rattle.window_policy.specs.Parts.{At, NewestAt, noted_or}
 
 pub record Stands (rule : WindowRule) (w : Window) (h : List WindowEvent) : Type 0 where
   pub by : w.policy.rule ≡ rule

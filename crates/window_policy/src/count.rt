@@ -2,7 +2,7 @@
 ghost use Rattle.std.specs.Prelude.{◌≡◌, ◌∷◌, [], ◌++◌, ◌==◌, suc, length, IfOk, if◌then◌else◌};
 ghost use Rattle.stream_model.specs.Windows.{flush_if, trigger_if};
 ghost use Rattle.window_policy.specs.Answers.{firing_of};
-ghost use Rattle.window_policy.specs.steps.Parts.{CountsTo};
+ghost use Rattle.window_policy.specs.Parts.{CountsTo};
 
 use crate::fired::Fired;
 use crate::ring::{push, take_all};

@@ -4,7 +4,8 @@ ghost use Rattle.circular_buffer.specs.Buffer.{last_item};
 ghost use Rattle.stream_model.specs.Windows.{integer_at as integer_of_tuple, exceeds as exceeds_by, flush_if};
 ghost use Rattle.stream_model.specs.WindowLaws.{exceeds_first as first_exceeded};
 ghost use Rattle.window_policy.specs.Answers.{firing_of};
-ghost use Rattle.window_policy.specs.steps.Deltas.{Rises, is_left, passed};
+ghost use Rattle.window_policy.specs.Deltas.{Rises};
+ghost use Rattle.window_policy.specs.steps.Deltas.{is_left, passed};
 
 use crate::fired::Fired;
 use crate::ring::{push, take_all};

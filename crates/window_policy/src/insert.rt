@@ -5,7 +5,8 @@ ghost use Rattle.indexmap.specs.IndexSet.{contains};
 ghost use Rattle.window_policy.specs.Answers.{firing_of, IsAllowed};
 ghost use Rattle.window_policy.specs.Standing.{Stands};
 ghost use Rattle.key_maps.specs.MapKeys.{equal_key};
-ghost use Rattle.window_policy.specs.steps.Parts.{Keeps, Notes, noted_or};
+ghost use Rattle.window_policy.specs.Parts.{Keeps, noted_or};
+ghost use Rattle.window_policy.specs.steps.Parts.{Notes};
 
 use crate::content::Content;
 use crate::fired::Fired;

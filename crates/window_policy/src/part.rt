@@ -2,7 +2,7 @@
 ghost use Rattle.std.specs.Prelude.{◌≡◌, ◌∷◌, [], IfOk};
 ghost use Rattle.stream_model.specs.Windows.{held, fires_behind};
 ghost use Rattle.window_policy.specs.Answers.{firing_of, IsAllowed};
-ghost use Rattle.window_policy.specs.steps.Parts.{Keeps};
+ghost use Rattle.window_policy.specs.Parts.{Keeps};
 
 use crate::count::{count_tuple, fill};
 use crate::delta::{slide, tumble};

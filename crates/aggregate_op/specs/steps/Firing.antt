@@ -6,23 +6,15 @@ use Rattle.spl_value.specs.declared.value.Value.{Value}
 use Rattle.language_model.specs.declared.checked.WindowRule.{WindowRule}
 use Rattle.language_model.specs.declared.outs.Output.{Output}
 use Rattle.language_model.specs.Outcomes.{Done, followed, need}
-use Rattle.stream_model.specs.declared.reply.Reply.{Reply}
-use Rattle.stream_model.specs.declared.reply.Reply.TheVariants as R
 use Rattle.stream_model.specs.Aggregates.{arguments, marker_passed}
 use Rattle.stream_model.specs.Bodies.{Makes, at_tuple, most_turns}
-use Rattle.stream_model.specs.Windows.{WindowEvent, Insert, Mark, fired_contents, partition_key}
+use Rattle.stream_model.specs.Windows.{WindowEvent, Insert, Mark, fired_contents}
 use Rattle.window_policy.specs.declared.window.Window.{Window}
 use Rattle.window_policy.specs.Standing.{Stands}
 use Rattle.aggregate_op.specs.declared.clauses.Clauses.{Clauses}
-use Rattle.aggregate_op.specs.Arguments.{ArgumentsFit, extended}
+use Rattle.aggregate_op.specs.steps.Arguments.{ArgumentsFit}
+use Rattle.aggregate_op.specs.Standing.{key_of_tuple, tuple_behind}
 use Rattle.aggregate_op.specs.steps.Giving.{contents_given}
-
--- the key of a tuple, and the tuple as it goes into the window
-abbrev pub key_of_tuple : Clauses → List Value → List Value
-key_of_tuple clauses t = partition_key clauses.window.now clauses.partition.now t
-
-abbrev pub tuple_behind : Clauses → List Value → List Value
-tuple_behind clauses t = extended clauses.at.checked.now.functions clauses.output.now t
 
 abbrev pub tuple_event : Clauses → List Value → WindowEvent
 tuple_event clauses t = Insert (key_of_tuple clauses t) (tuple_behind clauses t)

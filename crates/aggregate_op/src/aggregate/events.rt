@@ -11,9 +11,11 @@ ghost use Rattle.window_policy.specs.Answers.{firing_of};
 ghost use Rattle.window_policy.specs.Standing.{Stands};
 ghost use Rattle.port_reacts.specs.Bodies.{RepliesTo, RepliesToItem};
 ghost use Rattle.port_reacts.specs.Evaluation.{idle};
-ghost use Rattle.aggregate_op.specs.Arguments.{ArgumentsFit, extended as extended_by};
+ghost use Rattle.aggregate_op.specs.Arguments.{extended as extended_by};
+ghost use Rattle.aggregate_op.specs.steps.Arguments.{ArgumentsFit};
 ghost use Rattle.port_reacts.specs.PortReplies.{WhereOut};
-ghost use Rattle.aggregate_op.specs.steps.Firing.{EventGives, MayCome, TupleGives, events_after, event_makes, item_makes, key_of_tuple, tuple_makes};
+ghost use Rattle.aggregate_op.specs.steps.Firing.{EventGives, MayCome, TupleGives, events_after, event_makes, item_makes, tuple_makes};
+ghost use Rattle.aggregate_op.specs.Standing.{key_of_tuple};
 ghost use Rattle.aggregate_op.specs.steps.Giving.{contents_given};
 
 use crate::arguments::extended;

@@ -1,5 +1,5 @@
--- What a new integer leaves of the tuples of a sliding delta, and attributes that rise.
-use Rattle.std.specs.Prelude.{ℕ, ℤ, ◌-ℤ◌, int_lt, Bool, false, not, List, [], ◌∷◌, ◌++◌, ◌≡◌, if◌then◌else◌}
+-- What a new integer leaves of the tuples of a sliding delta.
+use Rattle.std.specs.Prelude.{ℕ, ℤ, ◌-ℤ◌, int_lt, Bool, not, List, [], ◌∷◌, ◌++◌, if◌then◌else◌}
 use Rattle.spl_value.specs.declared.value.Value.{Value}
 use Rattle.stream_model.specs.Windows.{integer_at}
 
@@ -11,12 +11,3 @@ is_left a limit new t = not (int_lt limit (new -ℤ integer_at a t))
 abbrev pub passed : ℕ → ℤ → ℤ → List (List Value) → List (List Value)
 passed a limit new [] = []
 passed a limit new (t ∷ ts) = if is_left a limit new t then ts ++ t ∷ [] else ts
-
--- no tuple is below the one before it in the attribute
-abbrev pub RisesBehind : ℕ → List Value → List (List Value) → Type 0
-RisesBehind a t [] = Unit {0}
-RisesBehind a t (u ∷ us) = (int_lt (integer_at a u) (integer_at a t) ≡ false) × RisesBehind a u us
-
-abbrev pub Rises : ℕ → List (List Value) → Type 0
-Rises a [] = Unit {0}
-Rises a (t ∷ ts) = RisesBehind a t ts

@@ -1,5 +1,6 @@
 use Rattle.std.proofs.Common.{◌≡◌, filter, length}
-use Rattle.window_policy.specs.steps.Deltas.{Rises, is_left}
+use Rattle.window_policy.specs.Deltas.{Rises}
+use Rattle.window_policy.specs.steps.Deltas.{is_left}
 use Rattle.window_policy.proofs.delta.evict_front.Given as goal
 
 abbrev pub invariant-fronts : goal.invariant-fronts

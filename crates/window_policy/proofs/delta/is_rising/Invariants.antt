@@ -1,5 +1,5 @@
 use Rattle.std.proofs.Common.{take}
-use Rattle.window_policy.specs.steps.Deltas.{Rises}
+use Rattle.window_policy.specs.Deltas.{Rises}
 use Rattle.window_policy.proofs.delta.is_rising.Given as goal
 
 abbrev pub invariant-loop-i : goal.invariant-loop-i

@@ -3,7 +3,7 @@ use Rattle.std.specs.Prelude.{FitsSigned, int_lt}
 use Rattle.std.specs.Int.{w128}
 use Rattle.std.proofs.lemmas.Int.{to_z-of_z}
 use Rattle.stream_model.specs.Windows.{integer_at}
-use Rattle.window_policy.specs.steps.Deltas.{Rises}
+use Rattle.window_policy.specs.Deltas.{Rises}
 use Rattle.window_policy.proofs.Deltas.{rises_more}
 use Rattle.window_policy.proofs.delta.slide.Goals as goal
 use Rattle.window_policy.proofs.delta.slide.Goals.{then-rising, else-rising}

@@ -6,7 +6,8 @@ use Rattle.spl_value.specs.declared.value.Value.{Value}
 use Rattle.stream_model.specs.Windows.{tuples_with, relevant, held, fires_behind, flushes_at_markers}
 use Rattle.window_policy.specs.Answers.{IsAllowed, firing_of}
 use Rattle.key_maps.specs.MapKeys.{equal_key}
-use Rattle.window_policy.specs.steps.Parts.{Keeps, Notes}
+use Rattle.window_policy.specs.Parts.{Keeps}
+use Rattle.window_policy.specs.steps.Parts.{Notes}
 use Rattle.window_policy.proofs.Parts.{Added}
 use Rattle.window_policy.proofs.Places.{kept_there, nothing, place_of_new, place_stays, updates_there}
 use Rattle.window_policy.proofs.Windows.{inserted, newest, fires_by, kept_at, none_at, known_stays, known_more, came_where_relevant}

@@ -5,7 +5,7 @@ use Rattle.std.specs.Map.{lookup}
 use Rattle.spl_value.specs.declared.value.Value.{Value}
 use Rattle.stream_model.specs.Windows.{Mark, tuples_with, relevant, flushes_at_markers}
 use Rattle.key_maps.specs.MapKeys.{equal_key}
-use Rattle.window_policy.specs.steps.Parts.{At, noted_or}
+use Rattle.window_policy.specs.Parts.{At, noted_or}
 use Rattle.window_policy.proofs.Marks.{flushes_all, nothing_counts}
 use Rattle.window_policy.proofs.window.Window.mark.Goals as goal
 
