@@ -31,7 +31,8 @@ use Rattle.language_model.specs.Statements.{State, Bodies, value_in, step_value,
 use Rattle.language_model.specs.ValueLaws.{NeverStuckLaw}
 use Rattle.value_operations.specs.Answers.{StopsAs, Answers}
 use Rattle.value_operations.specs.Changing as C
-use Rattle.value_operations.specs.Changing.{StepsLeadTo, ArgumentFits, CanChangeAt}
+use Rattle.value_operations.specs.Changing.{StepsLeadTo, ArgumentFits}
+use Rattle.value_operations.specs.steps.Places.{CanChangeAt}
 use Rattle.value_operations.specs.declared.stop.Stop.{Stop}
 use Rattle.expr_eval.specs.Running.{IsIn, PlaceIsFit, ChangeIsFit, LeadsNext, state}
 use Rattle.value_operations.proofs.Following.{followed_followed, followed_stops, answers_by, stops_by}

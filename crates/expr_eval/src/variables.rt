@@ -7,7 +7,7 @@ ghost use Rattle.language_model.specs.declared.outs.Output.{Output};
 ghost use Rattle.language_model.specs.Outcomes.{Outcome, followed};
 ghost use Rattle.language_model.specs.Statements.{changed_at};
 ghost use Rattle.value_operations.specs.Answers.{Answers};
-ghost use Rattle.value_operations.specs.Changing.{CanChangeAt};
+ghost use Rattle.value_operations.specs.steps.Places.{CanChangeAt};
 ghost use Rattle.expr_eval.specs.Running.{LeadsNext, state};
 ghost use Rattle.expr_eval.specs.steps.Keeping.{Keeps};
 

@@ -12,7 +12,8 @@ use Rattle.expr_parser.specs.Rules.{done, stop, look, call, Answer, Took, Refuse
 use Rattle.expr_parser.specs.RuleLaws.{begins_with, line, runs_done, runs_stop, runs_take, runs_skip, runs_call, runs_fail, runs_last}
 use Rattle.expr_parser.specs.Lines.{Line, Value, rule, R, is, expect}
 use Rattle.expr_parser.specs.Taken.{Taken}
-use Rattle.expr_parser.specs.Gives.{Answered, Says, Comes, Gives, Passes, Makes}
+use Rattle.expr_parser.specs.Gives.{Answered, Says, Gives, Passes}
+use Rattle.expr_parser.specs.steps.Parts.{Comes, Makes}
 
 -- what is said of an error that `?` hands on
 pub exit : {A E : Type 0} (P : Result A E → Type 0) (r : Result A E) (e : E) → IsErrAnd r (λ y. y ≡ e) → P (Err e) → P r

@@ -9,7 +9,8 @@ use Rattle.expr_parser.specs.Lines.{Prefixed, Primary, Group, rule, is, is_prefi
 use Rattle.expr_parser.specs.Taken.{Taken, TakenAs}
 use Rattle.expr_parser.specs.declared.stop.Stop.{Stop}
 use Rattle.expr_parser.specs.declared.stop.Stop.TheVariants as S
-use Rattle.expr_parser.specs.Gives.{Passes, Fronts}
+use Rattle.expr_parser.specs.Gives.{Passes}
+use Rattle.expr_parser.specs.steps.Parts.{Fronts}
 
 module _ {ps : List Prefix} {ts : List Token} where
   pub prefix_on : {p : Prefix} {rest : List Token} → TakenAs is_prefix prefix_token ts p rest → (o : Answer Expr) → Reads rule (Prefixed (ps ++ p ∷ [])) rest o

@@ -19,7 +19,8 @@ use Rattle.expr_parser.specs.RuleLaws.{begins_with, line, runs_done, runs_stop, 
 use Rattle.expr_parser.proofs.Locality.{reads_shrinks, taken_shrinks, taken_as_shrinks}
 use Rattle.expr_parser.specs.Lines.{Line, Whole, Rest, Climb, Chain, Prefixed, Primary, Group, Named, Elements, Items, Brace, Entries, Fields, Steps, rule, is, is_name, name_of, is_literal, literal_of, is_operator, operator_of, binary, conditional, prefixed, selected, field, expect, choice_rule, operand_rule, list_rule, field_rule}
 use Rattle.expr_parser.specs.Taken.{Taken, TakenAs}
-use Rattle.expr_parser.specs.Gives.{Answered, Comes, Gives, Passes, PassesName, Makes, Fronts, StepFound, StepsOn}
+use Rattle.expr_parser.specs.Gives.{Answered, Gives, Passes, PassesName}
+use Rattle.expr_parser.specs.steps.Parts.{Comes, Makes, Fronts, StepFound, StepsOn}
 use Rattle.expr_parser.proofs.Derive.{gives_line, comes_fail, comes_call, comes_take, comes_skip, comes_stop, comes_pass_fail, comes_pass, comes_tail, comes_made}
 
 -- Nodes

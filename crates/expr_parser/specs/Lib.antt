@@ -5,3 +5,4 @@ pub mod Taken
 pub mod Parts
 pub mod Gives
 pub mod Parses
+pub mod steps

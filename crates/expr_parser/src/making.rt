@@ -1,6 +1,6 @@
 //! The nodes of trees, each one higher than the highest of its parts.
 ghost use Rattle.spl_tree.specs.Trees.{placed};
-ghost use Rattle.expr_parser.specs.Gives.{Comes, Makes};
+ghost use Rattle.expr_parser.specs.steps.Parts.{Comes, Makes};
 ghost use Rattle.expr_parser.specs.Lines.{binary, conditional, expect, prefixed, selected};
 ghost use Rattle.expr_parser.specs.Rules.{done};
 

@@ -1,5 +1,5 @@
 //! Prefix operators and casts in front of an operand.
-ghost use Rattle.expr_parser.specs.Gives.{Fronts};
+ghost use Rattle.expr_parser.specs.steps.Parts.{Fronts};
 
 use crate::first::{after, cast_first, pass, prefix_first};
 use crate::stop::Stop;

@@ -3,7 +3,8 @@
 ghost use Rattle.std.specs.Prelude.{◌≡◌, ◌≢◌, ◌≤◌, ◌<◌, ℕ, List, [], MatchOption};
 ghost use Rattle.spl_tree.specs.Trees.{placed};
 ghost use Rattle.spl_tree.specs.declared.expression.ExprKind.TheVariants as X;
-ghost use Rattle.expr_parser.specs.Gives.{Gives, Comes, StepsOn};
+ghost use Rattle.expr_parser.specs.Gives.{Gives};
+ghost use Rattle.expr_parser.specs.steps.Parts.{Comes, StepsOn};
 ghost use Rattle.expr_parser.specs.Lines.{Whole, Rest, Climb, Chain, Prefixed, Primary, Group, Named, Elements, Brace, Entries, Fields, Steps, operand_rule, list_rule, choice_rule};
 ghost use Rattle.expr_parser.specs.Lines as lines;
 

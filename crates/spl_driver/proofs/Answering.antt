@@ -24,7 +24,7 @@ use Rattle.spl_driver.specs.Built.{is_built}
 use Rattle.spl_driver.specs.Files.{FilesOf, files_of, opens, whole_files}
 use Rattle.spl_driver.specs.Answer.{EachSink, HoldsText, HoldsPrefix, sink_text, CarriedOut, RunsTo, ReportsTo, Begun, CauseMeans, CreatingFailed, DeviceFailed, opening, reading, creating, writing, DevicesMean, ReadingFailed, WritingFailed, WroteOthers, StoppedBy, WholeReads, Answered, IsOr, IsRun, IsUnread, NeedsRecord, FollowsRecord, RecordHolds, WritesRecord, of_record, of_sink, of_telling, IsAnswer, IsComplete, ByWords, MayBe, NoCountChanged, cause_of}
 use Rattle.source_rows.specs.Counting.{OnlyReads, OpeningFailed}
-use Rattle.spl_driver.specs.Texts.{ToldAs}
+use Rattle.spl_driver.specs.steps.Telling.{ToldAs}
 use Rattle.spl_driver.specs.RequestLaws.{OneOutcomeLaw}
 use Rattle.spl_driver.specs.declared.ended.Ended.{Ended}
 use Rattle.command_line.specs.declared.request.RunOptions.{RunOptions}
@@ -36,7 +36,7 @@ use Rattle.spl_driver.proofs.Standing.{ended_is, ended_run}
 use Rattle.spl_driver.proofs.Running.{begun_same}
 use Rattle.spl_value.proofs.Bools.{or_true}
 use Rattle.spl_value.proofs.Lists.{same_name}
-use Rattle.spl_driver.specs.Steps.{is_ended_run}
+use Rattle.spl_driver.specs.steps.Steps.{is_ended_run}
 
 -- ---- what an answer means
 

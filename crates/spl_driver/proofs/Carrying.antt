@@ -25,8 +25,9 @@ use Rattle.source_rows.specs.Counting.{OpeningFailed}
 use Rattle.spl_driver.specs.Files.{FilesOf, creates, files_of, row_files}
 use Rattle.spl_driver.specs.Outcome.{IsReplay, has_record_fault, OfPlan, OfSize, Report, RequestOutcome, Reports}
 use Rattle.spl_driver.specs.Answer.{CauseMeans, CreatingFailed, DevicesMean, DevicesShow, ReadingFailed, StoppedBy, WholeReads, WritingFailed, IsUnread, MayBe, NeedsRecord, is_report, uncounted}
-use Rattle.spl_driver.specs.Texts.{IsReportText, IsText, wants_counts}
-use Rattle.spl_driver.specs.Steps.{CountsShow, FilesShow, FollowsFile, IsAcceptedOutcome, IsNamedBy, IsRunOf, IsToldAcceptedOutcome, MayBeOutcome, ReplayComes, RecordFor, RecordOf, RunComes, created_by, replay_files, run_files, is_bad_arrivals, is_ended_run}
+use Rattle.spl_driver.specs.Texts.{IsReportText, wants_counts}
+use Rattle.spl_driver.specs.steps.Telling.{IsText}
+use Rattle.spl_driver.specs.steps.Steps.{CountsShow, FilesShow, FollowsFile, IsAcceptedOutcome, IsNamedBy, IsRunOf, IsToldAcceptedOutcome, MayBeOutcome, ReplayComes, RecordFor, RecordOf, RunComes, created_by, replay_files, run_files, is_bad_arrivals, is_ended_run}
 use Rattle.spl_driver.proofs.Causes.{is_replay}
 use Rattle.spl_driver.specs.declared.ended.Ended.{Ended}
 use Rattle.arrival_format.specs.ArrivalTexts.{Spells}

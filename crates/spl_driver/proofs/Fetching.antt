@@ -14,7 +14,7 @@ use Rattle.source_rows.specs.Counting.{OnlyRead, OnlyReads}
 use Rattle.source_rows.specs.Sources.{ReadsFail, is_failed}
 use Rattle.spl_driver.specs.Outcome.{fails_within}
 use Rattle.spl_driver.specs.Answer.{NoCountChanged}
-use Rattle.spl_driver.specs.Steps.{FirstOpening, FirstReading, WholeFails}
+use Rattle.spl_driver.specs.steps.Steps.{FirstOpening, FirstReading, WholeFails}
 use Rattle.spl_value.proofs.Bools.{and_left, and_right}
 use Rattle.spl_value.proofs.Lists.{same_or_not}
 use Rattle.source_rows.proofs.Reading.{counts_same}

@@ -27,8 +27,8 @@ use Rattle.source_rows.specs.Counting.{OnlyReads}
 use Rattle.source_rows.specs.Sources.{ReadsFail}
 use Rattle.spl_driver.specs.Outcome.{RequestOutcome, BadArrivals, IsUnder, meant, run_outcome}
 use Rattle.spl_driver.specs.Answer.{Begun, CauseMeans, DevicesMean, IsOr, cause_of}
-use Rattle.spl_driver.specs.Texts.{IsText}
-use Rattle.spl_driver.specs.Steps.{EndsBehind, FilesShow, FollowsOrder, IsRunAs, IsRunOf, MayEndIn, NotWholeFor, RanFor, RanIn, RecordedBy, RunComes, RunComesAs, created_by, run_files, sinks_of, is_bad_arrivals, is_ended_run}
+use Rattle.spl_driver.specs.steps.Telling.{IsText}
+use Rattle.spl_driver.specs.steps.Steps.{EndsBehind, FilesShow, FollowsOrder, IsRunAs, IsRunOf, MayEndIn, NotWholeFor, RanFor, RanIn, RecordedBy, RunComes, RunComesAs, created_by, run_files, sinks_of, is_bad_arrivals, is_ended_run}
 use Rattle.spl_driver.proofs.Causes.{EndsWith}
 use Rattle.spl_driver.specs.declared.ended.Ended.{Ended}
 use Rattle.spl_driver.proofs.Replaying.{one_under}

@@ -12,8 +12,9 @@ use Rattle.command_line.specs.declared.request.Request.TheVariants as R
 use Rattle.spl_driver.specs.Answer.{Answered, ByWords, IsRun, MayBe, is_report}
 use Rattle.spl_driver.specs.Shown.{IsReason, IsRunProgram, NothingRan, Shown}
 use Rattle.spl_driver.specs.Built.{is_built}
-use Rattle.spl_driver.specs.Texts.{wants_counts, IsText, IsToldOutcome}
-use Rattle.spl_driver.specs.Steps.{AnswersRequest}
+use Rattle.spl_driver.specs.Texts.{wants_counts, IsToldOutcome}
+use Rattle.spl_driver.specs.steps.Telling.{IsText}
+use Rattle.spl_driver.specs.steps.Steps.{AnswersRequest}
 use Rattle.spl_driver.proofs.Causes.{IsReport}
 use Rattle.spl_driver.specs.declared.answer.Answer.{Answer}
 use Rattle.spl_driver.specs.Answer.{IsOr}

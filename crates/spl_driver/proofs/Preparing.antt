@@ -34,7 +34,7 @@ use Rattle.list_engine.specs.RunOrders.{AreInOrder, IsFirstNotWhole, StopsRun}
 use Rattle.spl_driver.specs.Outcome.{RequestOutcome, NotBuilt, BadArrivals, Runs, IsUnder, meant, run_outcome}
 use Rattle.spl_driver.specs.Outcome as U
 use Rattle.spl_driver.specs.Answer.{StoppedBy, cause_of}
-use Rattle.spl_driver.specs.Steps.{IsOrderOf, NotWholeFor, RanFor, RanIn, ran}
+use Rattle.spl_driver.specs.steps.Steps.{IsOrderOf, NotWholeFor, RanFor, RanIn, ran}
 use Rattle.spl_driver.proofs.Causes.{SourceUnread}
 use Rattle.spl_driver.proofs.Records.{same_record}
 

@@ -18,7 +18,7 @@ use Rattle.spl_driver.specs.AcceptedLaws.{TooLongLaw}
 use Rattle.spl_driver.specs.Compiled.{IsCompiled}
 use Rattle.spl_driver.specs.declared.compile_answer.CompileAnswer.{CompileAnswer}
 use Rattle.spl_driver.specs.declared.compile_answer.CompileAnswer.TheVariants as N
-use Rattle.spl_driver.specs.Steps.{CompiledAt}
+use Rattle.spl_driver.specs.steps.Steps.{CompiledAt}
 use Rattle.spl_driver.specs.declared.compiled.Compiled.TheVariants as P
 use Rattle.spl_driver.proofs.Fetching.{no_fault, long_fault}
 use Rattle.spl_driver.proofs.OneAccepted.{found_is}

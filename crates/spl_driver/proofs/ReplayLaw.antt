@@ -39,7 +39,7 @@ use Rattle.spl_driver.specs.declared.ended.Ended.{Ended}
 use Rattle.spl_driver.proofs.Preparing.{part_there}
 use Rattle.spl_value.proofs.Bools.{or_true}
 use Rattle.spl_value.proofs.Lists.{same_name}
-use Rattle.spl_driver.specs.Steps.{is_ended_run}
+use Rattle.spl_driver.specs.steps.Steps.{is_ended_run}
 
 -- ---- what a run was found to be
 

@@ -24,8 +24,8 @@ use Rattle.arrival_format.specs.FormatLaws.{OneRecordLaw}
 use Rattle.spl_driver.specs.Outcome.{RequestOutcome, BadArrivals, IsReplay, IsUnder, unread, misspelt, spelled, has_record_fault, fails_within}
 use Rattle.spl_driver.specs.Answer.{IsOr, IsRun, IsUnread, NoCountChanged, ReadingFailed, StoppedBy, DevicesShow, WholeReads}
 use Rattle.spl_driver.specs.Shown.{NothingRan}
-use Rattle.spl_driver.specs.Texts.{IsText}
-use Rattle.spl_driver.specs.Steps.{CountsShow, FilesShow, FirstOpening, FirstReading, FollowsOrder, IsRunOf, IsSomeIn, IsSomeReplay, RanGraph, ReasonOf, RecordAt, RecordFails, ReplayComes, Replays, RunComes, replay_files, run_files, is_ended_run}
+use Rattle.spl_driver.specs.steps.Telling.{IsText}
+use Rattle.spl_driver.specs.steps.Steps.{CountsShow, FilesShow, FirstOpening, FirstReading, FollowsOrder, IsRunOf, IsSomeIn, IsSomeReplay, RanGraph, ReasonOf, RecordAt, RecordFails, ReplayComes, Replays, RunComes, replay_files, run_files, is_ended_run}
 use Rattle.spl_driver.specs.declared.answer.Answer.{Answer}
 use Rattle.spl_driver.specs.declared.ended.Ended.{Ended}
 use Rattle.spl_driver.specs.declared.record.RecordRead.TheVariants as D

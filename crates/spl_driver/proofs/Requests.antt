@@ -17,7 +17,7 @@ use Rattle.spl_driver.specs.Built.{is_built}
 use Rattle.spl_driver.specs.Files.{program_of, parts_of}
 use Rattle.spl_driver.specs.Outcome.{RequestOutcome, NoRequest, Unreadable, Refused, NotBuilt, OfPlan, OfSize, Reports, BadArrivals, has_fault, has_record_fault, run_outcome, IsFound, IsOutcome, IsReplay, IsUnder, unread, misspelt, spelled, partial, whole, no_request, not_built, unreadable, refused, checks, plans, runs, replays, ArePartsIn, of_no_program, of_unreadable, of_program}
 use Rattle.spl_driver.specs.RequestLaws.{OneOutcomeLaw, SomeOutcomeLaw, OnePartsLaw, SomePartsLaw}
-use Rattle.spl_driver.specs.Steps.{IsAcceptedOutcome}
+use Rattle.spl_driver.specs.steps.Steps.{IsAcceptedOutcome}
 use Rattle.spl_driver.proofs.Replaying.{one_replay, some_replay}
 
 -- ---- the outcome, question by question

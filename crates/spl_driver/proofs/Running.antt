@@ -41,9 +41,10 @@ use Rattle.spl_driver.specs.Files.{FilesOf}
 use Rattle.spl_driver.specs.Outcome.{RequestOutcome, NoRequest, Unreadable, Refused, NotBuilt, Reports, BadArrivals, Runs, meant, run_outcome}
 use Rattle.spl_driver.specs.Answer.{EachSink, HoldsText, HoldsPrefix, HoldsUnlessFailed, SameFiles, CarriedOut, Begun, CauseMeans, CreatingFailed, DevicesMean, DevicesShow, IsRecordOf, RecordHolds, of_sink, of_record, of_telling, WritingFailed, WroteOthers, StoppedBy, WholeReads, cause_of, counts_of, IsOr, IsRun}
 use Rattle.arrival_format.specs.ArrivalTexts.{arrivals_text}
-use Rattle.spl_driver.specs.Texts.{IsText, run_text}
+use Rattle.spl_driver.specs.Texts.{run_text}
+use Rattle.spl_driver.specs.steps.Telling.{IsText}
 use Rattle.spl_driver.specs.Shown.{NothingRan, Ran, RanTo}
-use Rattle.spl_driver.specs.Steps.{RanFor, RanGraph, ReasonOf, ran, IsRunAs, RunComesAs, CountsShow, FilesShow, EndsAs, EndsBehind, EndsRun, RecordOf, RecordedBy, TellsBehind, TellsRun, IsNamedBy, created_by, last_of, run_files, sinks_of, sinks_from, counts_from, is_bad_arrivals, is_ended_run}
+use Rattle.spl_driver.specs.steps.Steps.{RanFor, RanGraph, ReasonOf, ran, IsRunAs, RunComesAs, CountsShow, FilesShow, EndsAs, EndsBehind, EndsRun, RecordOf, RecordedBy, TellsBehind, TellsRun, IsNamedBy, created_by, last_of, run_files, sinks_of, sinks_from, counts_from, is_bad_arrivals, is_ended_run}
 use Rattle.spl_driver.proofs.Causes.{SourceUnread}
 use Rattle.spl_driver.specs.declared.answer.Answer.{Answer}
 use Rattle.spl_driver.specs.declared.ended.Ended.{Ended}

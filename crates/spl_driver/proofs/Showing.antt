@@ -13,10 +13,10 @@ use Rattle.source_rows.specs.Counting.{OnlyReads}
 use Rattle.spl_driver.specs.Answer.{DevicesShow, IsRun, NoCountChanged, cause_of, is_report}
 use Rattle.spl_driver.specs.Built.{is_built}
 use Rattle.spl_driver.specs.Files.{FilesOf, files_of, program_of, row_files}
-use Rattle.spl_driver.specs.Texts.{ToldAs, OUT}
+use Rattle.spl_driver.specs.steps.Telling.{ToldAs, OUT}
 use Rattle.spl_driver.specs.Outcome.{IsProgramOf}
 use Rattle.spl_driver.specs.Shown.{ArePartsOf, IsReason, IsRunProgram, TextShown, NothingRan, Ran, RanShown, RunShown, Shown, ShownBy}
-use Rattle.spl_driver.specs.Steps.{CountsShow, FirstOpening, FirstReading, IsRunGraph, RanAccepted, RanGraph, ReasonOf, is_bad_arrivals}
+use Rattle.spl_driver.specs.steps.Steps.{CountsShow, FirstOpening, FirstReading, IsRunGraph, RanAccepted, RanGraph, ReasonOf, is_bad_arrivals}
 use Rattle.spl_driver.proofs.Causes.{IsReport}
 use Rattle.spl_driver.specs.Answer.{IsOr}
 use Rattle.spl_driver.specs.declared.ended.Ended.{Ended}

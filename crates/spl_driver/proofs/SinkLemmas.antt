@@ -30,7 +30,7 @@ use Rattle.file_adapters.specs.Sinks.{AreDistinct, EmptyBefore, HasOwnFile, Hold
 use Rattle.list_engine.specs.RunLaws.{SinkLaw}
 use Rattle.list_engine.specs.Runs.{SinksGiven}
 use Rattle.spl_driver.specs.Answer.{EachSink, HoldsPrefix, HoldsText, HoldsUnlessFailed, SameFiles, sink_count, sink_text}
-use Rattle.spl_driver.specs.Steps.{IsNamedBy, counts_from, created_by, last_of, sinks_from, sinks_of}
+use Rattle.spl_driver.specs.steps.Steps.{IsNamedBy, counts_from, created_by, last_of, sinks_from, sinks_of}
 use Rattle.spl_driver.proofs.Operators.{operator_at, ops_made}
 
 -- ---- files that stay

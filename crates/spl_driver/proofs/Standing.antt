@@ -24,11 +24,12 @@ use Rattle.spl_driver.specs.Built.{is_built}
 use Rattle.spl_driver.specs.Files.{FilesOf, files_of, opens, creates, most_bytes, row_files, whole_files, program_of}
 use Rattle.spl_driver.specs.Outcome.{RequestOutcome, NoRequest, Unreadable, Refused, NotBuilt, Reports, BadArrivals, Runs, fails_within, has_fault, IsOutcome, IsProgramOf, no_request, not_built, ArePartsIn, of_program, meant}
 use Rattle.spl_driver.specs.Answer.{EachSink, HoldsText, SameFiles, Begun, CauseMeans, ReportsTo, RunsTo, WroteOthers, StoppedCreating, TellingFailed, DevicesMean, ReadingFailed, WholeReads, NoCountChanged, StoppedBy, Answered, ByWords, FollowsRecord, IsOr, IsRun, IsUnread, NeedsRecord, RecordHolds, WritesRecord}
-use Rattle.spl_driver.specs.Texts.{wants_counts, IsToldOutcome, EndsTelling, IsText, IsTextOf, MayComeTo}
+use Rattle.spl_driver.specs.Texts.{wants_counts, IsToldOutcome, EndsTelling, IsTextOf, MayComeTo}
+use Rattle.spl_driver.specs.steps.Telling.{IsText}
 use Rattle.spl_driver.specs.RequestLaws.{OnePartsLaw}
 use Rattle.spl_driver.specs.AcceptedLaws.{OneAcceptedLaw}
 use Rattle.arrival_format.specs.ArrivalTexts.{Spells, arrivals_text}
-use Rattle.spl_driver.specs.Steps.{FirstOpening, FirstReading, MayBeOutcome, CompiledAt, FollowsFile, IsAcceptedOutcome, IsToldAcceptedOutcome, CountsShow, FilesShow, RecordFor, RecordOf, WholeFails, is_ended_run}
+use Rattle.spl_driver.specs.steps.Steps.{FirstOpening, FirstReading, MayBeOutcome, CompiledAt, FollowsFile, IsAcceptedOutcome, IsToldAcceptedOutcome, CountsShow, FilesShow, RecordFor, RecordOf, WholeFails, is_ended_run}
 use Rattle.spl_driver.proofs.Causes.{ReadingAnswered, EndsWith}
 use Rattle.spl_driver.specs.declared.compiled.Compiled.TheVariants as P
 use Rattle.spl_driver.specs.declared.ended.Ended.{Ended}

@@ -12,7 +12,8 @@ use Rattle.run_report.specs.declared.cause.Cause.TheVariants as C
 use Rattle.command_line.specs.declared.request.Request.{Request}
 use Rattle.spl_driver.specs.Answer.{IsOr, IsRun, cause_of}
 use Rattle.spl_driver.specs.Shown.{TextShown, Shown, ShownBy}
-use Rattle.spl_driver.specs.Texts.{wants_counts, is_run, ToldAs, TextPoured, whole, front, failed, wanting, Pours, PoursText, IsText, IsTextOf, PouredText, Said, OUT}
+use Rattle.spl_driver.specs.Texts.{wants_counts, IsTextOf, PouredText, Said}
+use Rattle.spl_driver.specs.steps.Telling.{is_run, ToldAs, TextPoured, whole, front, failed, wanting, Pours, PoursText, IsText, OUT}
 use Rattle.spl_driver.specs.Outcome.{RequestOutcome}
 use Rattle.spl_driver.proofs.Showing.{text_shown}
 

@@ -7,6 +7,6 @@ pub mod Outcome
 pub mod Answer
 pub mod Shown
 pub mod Texts
-pub mod Steps
 pub mod RequestLaws
 pub mod ReplayLaws
+pub mod steps

@@ -1,6 +1,5 @@
 -- What the program tells.
-use Rattle.std.specs.Prelude.{◌≡◌, ◌⊎◌, ℕ, Bool, true, false, if◌then◌else◌, List, [], ◌++◌, codes, take, Option, Some, None, Result, Ok, Err, ⊤, IfSome}
-use Rattle.spl_value.specs.declared.memory.NoMemory.{NoMemory}
+use Rattle.std.specs.Prelude.{◌≡◌, ◌⊎◌, ℕ, Bool, false, if◌then◌else◌, List, [], ◌++◌, take, Option, Some, None, ⊤, IfSome}
 use Rattle.feed_pour.specs.Contents.{Told}
 use Rattle.feed_pour.specs.Counts.{PerName}
 use Rattle.language_model.specs.CheckedGraph.{CheckedGraph}
@@ -17,7 +16,7 @@ use Rattle.run_report.specs.PlanTexts.{plan_text}
 use Rattle.run_report.specs.Texts.{status_text, check_text}
 use Rattle.command_line.specs.declared.request.Request.{Request}
 use Rattle.command_line.specs.declared.request.Request.TheVariants as R
-use Rattle.spl_driver.specs.Answer.{IsRun, cause_of, counts_of}
+use Rattle.spl_driver.specs.Answer.{cause_of, counts_of}
 use Rattle.spl_driver.specs.Outcome.{Report, OfSize, OfPlan, RequestOutcome, Reports, BadArrivals, Runs, IsOutcome, IsProgramOf}
 use Rattle.spl_driver.specs.Shown.{IsBadFor, TextShown, RanTo, ShownBy}
 
@@ -61,14 +60,6 @@ EndsTelling counted _ cause text = ⊥
 abbrev pub IsTextOf : Bool → (RequestOutcome → Type 0) → Cause → List ℕ → Type 0
 IsTextOf counted Is cause text = (result : RequestOutcome) × Is result × EndsTelling counted result cause text
 
--- the text of a cause; nothing is said of that of a lack of memory
-abbrev pub IsText : Bool → Cause → (RequestOutcome → Type 0) → List ℕ → Type 0
-IsText counted C.NoMemory Is text = ⊤
-IsText counted C.Done Is text = IsTextOf counted Is C.Done text
-IsText counted (C.Stopped fault) Is text = IsTextOf counted Is (C.Stopped fault) text
-IsText counted (C.BadArrivals op) Is text = IsTextOf counted Is (C.BadArrivals op) text
-IsText counted cause Is text = text ≡ status_text None cause
-
 -- these bytes were poured, or a front of them where the pour's count rose
 abbrev pub PouredText : List ℕ → List ℕ → Option (List ℕ) → Type 0 → Type 0
 PouredText bytes old now Failed = (now ≡ Some (old ++ bytes)) ⊎ (Failed × ((n : ℕ) × (now ≡ Some (old ++ take n bytes))))
@@ -90,36 +81,3 @@ Said (C.WriteFailed name) request Is counts later (Some old) now Failed =
     ⊎ (TextShown name request counts later Failed
     × ((cause : Cause) × (text : List ℕ) × IsTextOf (wants_counts request) Is cause text × (n : ℕ) × (now ≡ Some (old ++ take n text))))
 Said cause request Is counts later (Some old) now Failed = PouredText (status_text None cause) old now Failed
-
--- ---- how a text is told
-
--- the name that means standard output
-abbrev pub OUT : List ℕ
-OUT = codes "-"
-
--- a request was carried out
-abbrev pub is_run : Cause → Bool
-is_run C.Done = true
-is_run (C.Stopped fault) = true
-is_run _ = false
-
--- what is told of a cause becomes of it: it stays, unless memory ran out; but where the text of a request that was carried out isn't
--- poured, its writing failed
-abbrev pub ToldAs : Cause → Cause → Type 0 → Type 0
-ToldAs cause result Failed = (result ≡ cause) ⊎ ((result ≡ C.NoMemory) ⊎ ((result ≡ C.WriteFailed OUT) × IsRun cause × Failed))
-
--- the text was poured whole; or a front of it, since the pour failed or memory ran out
-pub data TextPoured (cause result : Cause) (text : List ℕ) (old : List ℕ) (now : Option (List ℕ)) (Failed : Type 0) : Type 0 where
-  whole : result ≡ cause → now ≡ Some (old ++ text) → TextPoured cause result text old now Failed
-  front : result ≡ cause → (IsRun cause → ⊥) → Failed → (n : ℕ) → now ≡ Some (old ++ take n text) → TextPoured cause result text old now Failed
-  failed : result ≡ C.WriteFailed OUT → IsRun cause → Failed → (n : ℕ) → now ≡ Some (old ++ take n text) → TextPoured cause result text old now Failed
-  wanting : result ≡ C.NoMemory → TextPoured cause result text old now Failed
-
-abbrev pub Pours : Cause → Cause → List ℕ → Option (List ℕ) → Option (List ℕ) → Type 0 → Type 0
-Pours cause result text None now Failed = ⊤
-Pours cause result text (Some old) now Failed = TextPoured cause result text old now Failed
-
--- a text that there was memory for
-abbrev pub PoursText : Cause → Cause → Result (List ℕ) NoMemory → Option (List ℕ) → Option (List ℕ) → Type 0 → Type 0
-PoursText cause result (Ok text) old now Failed = Pours cause result text old now Failed
-PoursText cause result (Err e) old now Failed = result ≡ C.NoMemory

@@ -9,8 +9,9 @@ ghost use Rattle.spl_driver.specs.Shown.{NothingRan};
 ghost use Rattle.spl_driver.specs.Built.{is_built};
 ghost use Rattle.spl_driver.specs.Files.{files_of, program_of};
 ghost use Rattle.spl_driver.specs.Outcome.{OfPlan, OfSize};
-ghost use Rattle.spl_driver.specs.Texts.{IsReportText, IsText, wants_counts};
-ghost use Rattle.spl_driver.specs.Steps.{AnswersRequest, CountsShow, FilesShow, FollowsFile, IsAcceptedOutcome, IsToldAcceptedOutcome, RanAccepted, ReasonOf, RecordFor, Replays};
+ghost use Rattle.spl_driver.specs.Texts.{IsReportText, wants_counts};
+ghost use Rattle.spl_driver.specs.steps.Telling.{IsText};
+ghost use Rattle.spl_driver.specs.steps.Steps.{AnswersRequest, CountsShow, FilesShow, FollowsFile, IsAcceptedOutcome, IsToldAcceptedOutcome, RanAccepted, ReasonOf, RecordFor, Replays};
 
 use crate::compiled::{Compiled, compile_file};
 use crate::ended::{Ended, open_failed, read_failed, uncounted_end};

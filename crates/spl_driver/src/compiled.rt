@@ -4,7 +4,7 @@ ghost use Rattle.run_report.specs.Refusals.{refusal_of};
 ghost use Rattle.language_model.specs.Accepted.{Lexical};
 ghost use Rattle.spl_tree.specs.declared.token.LexicalError.TheVariants.{TooLong};
 ghost use Rattle.feed_pour.specs.Contents.{WhereTold, TellsSame};
-ghost use Rattle.spl_driver.specs.Steps.{CompileCounted, CompiledAt, HasOwnFiles, IsCompiledFrom, WholeFails};
+ghost use Rattle.spl_driver.specs.steps.Steps.{CompileCounted, CompiledAt, HasOwnFiles, IsCompiledFrom, WholeFails};
 
 use crate::compile_answer::CompileAnswer;
 use crate::compiling::compile;

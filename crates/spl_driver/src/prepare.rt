@@ -3,7 +3,7 @@ ghost use Rattle.std.specs.Prelude.{◌≡◌, ◌<◌, ◌-◌, ◌^◌, true, 
 ghost use Rattle.feed_pour.specs.Contents.{WhereTold, TellsSame};
 ghost use Rattle.language_model.specs.Keeping.{Keeps};
 ghost use Rattle.source_rows.specs.Sources.{ReadsFail};
-ghost use Rattle.spl_driver.specs.Steps.{IsOrderOf, PreparedCounted, PreparedOf, run_files};
+ghost use Rattle.spl_driver.specs.steps.Steps.{IsOrderOf, PreparedCounted, PreparedOf, run_files};
 
 use fault_laws::run_faults_law;
 use feed_pour::Shelf;

@@ -2,7 +2,7 @@
 ghost use Rattle.std.specs.Prelude.{◌≡◌, ◌<◌, ◌-◌, ◌^◌, IfSome};
 ghost use Rattle.feed_pour.specs.Contents.{WhereTold, TellsSame};
 ghost use Rattle.source_rows.specs.Sources.{ReadsFail};
-ghost use Rattle.spl_driver.specs.Steps.{IsOrderFor, RecordAt, RecordCounted, RecordFails};
+ghost use Rattle.spl_driver.specs.steps.Steps.{IsOrderFor, RecordAt, RecordCounted, RecordFails};
 
 use arrival_format::{ArrivalsAnswer, read_arrivals};
 use feed_pour::{Fetched, Shelf, fetch};

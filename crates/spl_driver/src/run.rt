@@ -4,8 +4,9 @@ ghost use Rattle.feed_pour.specs.Contents.{WhereTold};
 ghost use Rattle.check_laws.specs.Files.{OwnFiles};
 ghost use Rattle.file_adapters.specs.Sinks.{names_of};
 ghost use Rattle.spl_driver.specs.Answer.{cause_of};
-ghost use Rattle.spl_driver.specs.Texts.{IsText, run_text};
-ghost use Rattle.spl_driver.specs.Steps.{CountsShow, EndsAs, EndsRun, FilesShow, FollowsOrder, IsNamedBy, IsOrderOf, IsRunOf, MayEndIn, RanGraph, ReasonOf, RecordOf, RunComes, TellsRun, counts_from, run_files};
+ghost use Rattle.spl_driver.specs.Texts.{run_text};
+ghost use Rattle.spl_driver.specs.steps.Telling.{IsText};
+ghost use Rattle.spl_driver.specs.steps.Steps.{CountsShow, EndsAs, EndsRun, FilesShow, FollowsOrder, IsNamedBy, IsOrderOf, IsRunOf, MayEndIn, RanGraph, ReasonOf, RecordOf, RunComes, TellsRun, counts_from, run_files};
 ghost use Rattle.run_report.specs.Texts.{status_text};
 
 use crate::answer::{Answer, bad_arrivals, plain};

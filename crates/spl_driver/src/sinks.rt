@@ -2,7 +2,7 @@
 ghost use Rattle.std.specs.Prelude.{◌≡◌, ℕ, List, IfOk, Some, slice_get};
 ghost use Rattle.arrival_format.specs.ArrivalTexts.{arrivals_text};
 ghost use Rattle.file_adapters.specs.Sinks.{names_of};
-ghost use Rattle.spl_driver.specs.Steps.{counts_from, last_of, sinks_of};
+ghost use Rattle.spl_driver.specs.steps.Steps.{counts_from, last_of, sinks_of};
 
 use arrival_format::arrivals_text;
 use file_adapters::{Sink, TextFile};

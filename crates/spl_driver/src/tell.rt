@@ -2,7 +2,7 @@
 ghost use Rattle.std.specs.Prelude.{◌≡◌};
 ghost use Rattle.feed_pour.specs.Counts.{Rose};
 ghost use Rattle.spl_driver.specs.Answer.{IsRun};
-ghost use Rattle.spl_driver.specs.Texts.{is_run, ToldAs, Pours};
+ghost use Rattle.spl_driver.specs.steps.Telling.{is_run, ToldAs, Pours};
 
 use crate::ended::write_failed;
 use feed_pour::{Pour, PourAnswer, write_all};

@@ -6,8 +6,9 @@ ghost use Rattle.command_line.specs.Request.{request_of};
 ghost use Rattle.source_rows.specs.Counting.{OnlyRead};
 ghost use Rattle.spl_driver.specs.Answer.{Answered, ByWords, MayBe, status_of, IsComplete, IsRun};
 ghost use Rattle.spl_driver.specs.Shown.{IsReason, RanShown, Shown};
-ghost use Rattle.spl_driver.specs.Texts.{IsToldOutcome, Said, ToldAs, PoursText};
-ghost use Rattle.spl_driver.specs.Steps.{AnswersRequest};
+ghost use Rattle.spl_driver.specs.Texts.{IsToldOutcome, Said};
+ghost use Rattle.spl_driver.specs.steps.Telling.{ToldAs, PoursText};
+ghost use Rattle.spl_driver.specs.steps.Steps.{AnswersRequest};
 
 use crate::answer::{Answer, answer_program, plain};
 use crate::built::is_plain;

@@ -11,7 +11,8 @@ use Rattle.expr_parser.specs.Taken.{Taken}
 use Rattle.statement_parser.proofs.Readings.{reads, taken, says_on}
 use Rattle.statement_parser.proofs.StatementReadings.{part_read}
 use Rattle.statement_parser.specs.Gives.{Answered, Comes, Gives}
-use Rattle.statement_parser.specs.Lines.{Line, Value, Name, Attributes, MoreAttributes, attribute_rule, rule, R}
+use Rattle.statement_parser.specs.Lines.{Line, Value, Name, Attributes, MoreAttributes, rule, R}
+use Rattle.statement_parser.specs.steps.Parts.{attribute_rule}
 use Rattle.expr_parser.specs.RuleLaws.{runs_last}
 
 -- a line whose rule goes on with the rule r at mid gives the result of r there

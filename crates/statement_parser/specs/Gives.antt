@@ -1,5 +1,5 @@
 -- What a call that reads answers, against the results of the lines and their rules.
-use Rattle.std.specs.Prelude.{◌≡◌, ℕ, false, List, [], ◌∷◌, ◌++◌, Option, Some, None, Result, Ok, Err}
+use Rattle.std.specs.Prelude.{◌≡◌, ℕ, false, List, [], ◌∷◌, ◌++◌, Result, Ok, Err}
 use Rattle.std.specs.Borrow.{Bor}
 use Rattle.spl_tree.specs.declared.expression.Placed.{Placed}
 use Rattle.spl_tree.specs.declared.keyword.Keyword.{Keyword}
@@ -9,8 +9,7 @@ use Rattle.expr_parser.specs.declared.stop.Stop.TheVariants as S
 use Rattle.expr_parser.specs.RuleLaws.{begins_with}
 use Rattle.expr_parser.specs.Rules.{Answer, Took, Refused, RunsTo, Reads}
 use Rattle.expr_parser.specs.Taken.{Taken, TakenAs}
-use Rattle.spl_tree.specs.Trees.{TypeExpr}
-use Rattle.statement_parser.specs.Lines.{Line, Value, rule, R, is_word, is_dollar, dollar_at, is_type, type_of}
+use Rattle.statement_parser.specs.Lines.{Line, Value, rule, R, is_word, is_dollar, dollar_at}
 
 -- a value and the tokens after it, or where reading stops
 abbrev pub Answered : Type 0 → Type 0
@@ -41,13 +40,6 @@ abbrev pub PassesDollar : List Token → Result (Placed (List ℕ) × Bor (List 
 PassesDollar ts (Ok found) = TakenAs is_dollar dollar_at ts found.0 found.1.now
 PassesDollar ts (Err (S.At rest)) = (begins_with is_dollar ts ≡ false) × (rest.now ≡ ts)
 PassesDollar ts (Err S.Memory) = Unit {0}
-
--- a token that is a type by itself comes first, with these tokens after it, or none does
-abbrev pub TypeFirst : List Token → Result (Option (TypeExpr × Bor (List Token))) Stop → Type 0
-TypeFirst ts (Ok (Some found)) = TakenAs is_type type_of ts found.0 found.1.now
-TypeFirst ts (Ok None) = begins_with is_type ts ≡ false
-TypeFirst ts (Err (S.At rest)) = ⊥
-TypeFirst ts (Err S.Memory) = Unit {0}
 
 -- the value that is answered is pushed onto those before it, with these tokens after it; or reading stops as it did for
 -- the value

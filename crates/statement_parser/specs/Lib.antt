@@ -1,3 +1,3 @@
 pub mod Lines
 pub mod Gives
-pub mod GivesStatements
+pub mod steps

@@ -301,22 +301,12 @@ lifted (call x k) = call (Expression x) (λ y. lifted (k y))
 abbrev pub expression_before : Symbol → R Expr
 expression_before s = expression (λ e. expect s (done e))
 
-abbrev pub expression_between : Symbol → Symbol → R Expr
-expression_between opening close = expect opening (expression_before close)
-
 -- the same of a type
 abbrev pub type_before : Symbol → R TypeExpr
 type_before s = call TypeExpression (λ k. expect s (done k))
 
 abbrev pub type_between : Symbol → Symbol → R TypeExpr
 type_between opening close = expect opening (type_before close)
-
--- a type with a name, also after the type
-abbrev pub named_attribute_rule : TypeExpr → R (Attribute TypeExpr)
-named_attribute_rule k = expect_name (λ n. done (record { kind = k; name = n }))
-
-abbrev pub attribute_rule : R (Attribute TypeExpr)
-attribute_rule = call TypeExpression named_attribute_rule
 
 -- a type, or another way where no type begins here
 abbrev pub a_type : {A : Type 0} → (TypeExpr → R A) → R A → R A
@@ -340,10 +330,6 @@ shape_rule close =
     call TypeExpression (λ k.
     look is_name (λ t. call (MoreAttributes close (named k t (name_of t) ∷ [])) (λ xs. done (placed k.at (H.Attributes xs))))
     (expect close (done (placed k.at (H.Type k)))))
-
--- a shape at a place, after its first attribute
-abbrev pub named_shape_rule : ℕ → Symbol → Attribute TypeExpr → R Shape
-named_shape_rule at close x = call (MoreAttributes close (x ∷ [])) (λ xs. done (placed at (H.Attributes xs)))
 
 abbrev pub declared : Bool → TypeExpr → Name → Option Expr → Declaration
 declared m k n v = record { mutable = m; kind = k; name = n; value = v }

@@ -3,7 +3,8 @@ ghost use Rattle.std.specs.Prelude.{◌≡◌, false, MatchOption, IfOk};
 ghost use Rattle.expr_parser.specs.RuleLaws.{begins_with};
 ghost use Rattle.expr_parser.specs.Taken.{Taken, TakenAs};
 ghost use Rattle.spl_tree.specs.Operators.{assignment_of, assignment_symbol};
-ghost use Rattle.statement_parser.specs.Gives.{PassesWord, PassesDollar, TypeFirst};
+ghost use Rattle.statement_parser.specs.Gives.{PassesWord, PassesDollar};
+ghost use Rattle.statement_parser.specs.steps.GivesTypes.{TypeFirst};
 ghost use Rattle.statement_parser.specs.Lines.{is_word, is_assignment, assignment_at, keyword_type};
 
 use expr_parser::Stop;

@@ -1,7 +1,8 @@
 //! Values in a row, and symbols after a value.
 ghost use Rattle.expr_parser.specs.Rules.{done};
 ghost use Rattle.statement_parser.specs.Gives.{Comes, Pushed};
-ghost use Rattle.statement_parser.specs.Lines.{expect, expression_before, expression_between, name_before};
+ghost use Rattle.statement_parser.specs.Lines.{expect, expression_before, name_before};
+ghost use Rattle.statement_parser.specs.steps.Parts.{expression_between};
 
 use expr_parser::{Stop, Taken, pass, pass_name, read_expression};
 use spl_tree::{Expr, Placed, Symbol, Token};

@@ -7,7 +7,7 @@ ghost use Rattle.spl_tree.specs.declared.expression.ExprKind.TheVariants as X;
 ghost use Rattle.spl_tree.specs.declared.statement.StmtKind.TheVariants as Z;
 ghost use Rattle.spl_tree.specs.Trees.{placed};
 ghost use Rattle.statement_parser.specs.Gives.{Gives, Comes};
-ghost use Rattle.statement_parser.specs.GivesStatements.{ElseBehind, assigned_rule, called_rule, condition, ended_rule as statement_ended_rule, for_head, for_variable, gone_over, named_rule, variable_rule as named_variable_rule};
+ghost use Rattle.statement_parser.specs.steps.GivesStatements.{ElseBehind, assigned_rule, called_rule, condition, ended_rule as statement_ended_rule, for_head, for_variable, gone_over, named_rule, variable_rule as named_variable_rule};
 ghost use Rattle.statement_parser.specs.Lines as lines;
 ghost use Rattle.statement_parser.specs.Lines.{ended_rule, mutable_rule, returned_rule, simple_rule, submitted_rule, variable_rule};
 

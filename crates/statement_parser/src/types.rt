@@ -4,7 +4,8 @@ ghost use Rattle.expr_parser.specs.Rules.{done};
 ghost use Rattle.spl_tree.specs.Trees.{placed};
 ghost use Rattle.statement_parser.specs.Gives.{Comes, Gives};
 ghost use Rattle.statement_parser.specs.Lines as lines;
-ghost use Rattle.statement_parser.specs.Lines.{attribute_rule, named_attribute_rule, named_shape_rule, type_before, type_between};
+ghost use Rattle.statement_parser.specs.Lines.{type_before, type_between};
+ghost use Rattle.statement_parser.specs.steps.Parts.{attribute_rule, named_attribute_rule, named_shape_rule};
 
 use crate::first::{type_first, word_first};
 use crate::sequence::{closed, push_taken};

@@ -1,11 +1,11 @@
 -- What collectors make of the values that stand at places of tuples: each assignment of an Aggregate has a place of its own.
-use Rattle.std.specs.Prelude.{◌+◌, ℕ, Bool, true, false, List, [], ◌∷◌, length, Option, Some, slice_get}
+use Rattle.std.specs.Prelude.{◌+◌, ℕ, List, [], ◌∷◌, length, Option, Some, slice_get}
 use Rattle.std.specs.List.{filter_map}
 use Rattle.std.specs.Option.{option_and_then, option_map}
 use Rattle.spl_value.specs.declared.value.Value.{Value}
 use Rattle.language_model.specs.declared.checked.CollectedAttribute.{CollectedAttribute}
 use Rattle.language_model.specs.Evaluation.{tuple_of}
-use Rattle.stream_model.specs.Aggregates.{collected, is_below}
+use Rattle.stream_model.specs.Aggregates.{collected}
 
 -- the values at a place
 abbrev pub column : ℕ → List (List Value) → List Value
@@ -20,8 +20,3 @@ fields_at p (x ∷ xs) us =
 -- the tuple of a group
 abbrev pub tuple_at : ℕ → List CollectedAttribute → List (List Value) → Option (List Value)
 tuple_at p output us = option_and_then tuple_of (fields_at p output us)
-
--- one value comes before another: the greater one, or the lesser one
-abbrev pub before : Bool → Value → Value → Bool
-before true v w = is_below w v
-before false v w = is_below v w

@@ -4,7 +4,8 @@ ghost use Rattle.std.specs.List.{cons_option};
 ghost use Rattle.std.specs.Option.{option_copied};
 ghost use Rattle.spl_value.specs.declared.value.Value.{Value as V};
 ghost use Rattle.stream_model.specs.Aggregates.{first as first_of, first_of_two, last as last_of, least_by};
-ghost use Rattle.tuple_groups.specs.Columns.{before, column};
+ghost use Rattle.tuple_groups.specs.Columns.{column};
+ghost use Rattle.tuple_groups.specs.steps.Extremes.{before};
 ghost use Rattle.tuple_groups.specs.Seen.{seen};
 
 use spl_value::{Value, Values, order};

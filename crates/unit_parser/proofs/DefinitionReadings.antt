@@ -24,7 +24,7 @@ use Rattle.unit_parser.proofs.CompositeReadings.{by_rule, composite_named, name_
 use Rattle.statement_parser.proofs.Readings.{finished, skipped, passed, says_on, pass_fails}
 use Rattle.statement_parser.specs.Gives.{Answered, Comes, Gives}
 use Rattle.expr_parser.proofs.Derive.{exit}
-use Rattle.unit_parser.specs.GivesComposites.{Defines, DefinesOn, PassesNames, begins_type, function_behind, is_type_front, word_begins_type}
+use Rattle.unit_parser.specs.steps.GivesComposites.{Defines, DefinesOn, PassesNames, begins_type, function_behind, is_type_front, word_begins_type}
 use Rattle.statement_parser.specs.Lines.{Name, rule, R, expect, a_type, is_word, word_kind, is_type, type_kind, TypeExpression, TypeOf, CompositeOf, FunctionOf, FunctionParameters, Block, Definitions, Namespace}
 use Rattle.statement_parser.proofs.StatementReadings.{behind, part_read}
 

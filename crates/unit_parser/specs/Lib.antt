@@ -1,4 +1,2 @@
-pub mod GivesClauses
-pub mod GivesComposites
-pub mod GivesParts
 pub mod Parses
+pub mod steps

@@ -1,8 +1,8 @@
 //! The clauses of an invocation.
 ghost use Rattle.std.specs.Prelude.{[]};
 ghost use Rattle.statement_parser.specs.Gives.{Comes, Gives};
-ghost use Rattle.unit_parser.specs.GivesClauses.{EventFirst};
-ghost use Rattle.unit_parser.specs.GivesParts.{logic_and_window, param_to_config, output_and_config, port_window, window_part, parameter, stream_assignments, assignment};
+ghost use Rattle.unit_parser.specs.steps.GivesClauses.{EventFirst};
+ghost use Rattle.unit_parser.specs.steps.GivesParts.{logic_and_window, param_to_config, output_and_config, port_window, window_part, parameter, stream_assignments, assignment};
 ghost use Rattle.statement_parser.specs.Lines as lines;
 
 use crate::declarations::declarations;

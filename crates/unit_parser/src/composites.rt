@@ -1,8 +1,8 @@
 //! Composites.
 ghost use Rattle.std.specs.Prelude.{[]};
 ghost use Rattle.statement_parser.specs.Gives.{Comes, Gives};
-ghost use Rattle.unit_parser.specs.GivesComposites.{both_ports_rule, other_ports_rule};
-ghost use Rattle.unit_parser.specs.GivesParts.{composite_clauses, parameters_and_types, graph_and_config, composite_parameter};
+ghost use Rattle.unit_parser.specs.steps.GivesComposites.{both_ports_rule, other_ports_rule};
+ghost use Rattle.unit_parser.specs.steps.GivesParts.{composite_clauses, parameters_and_types, graph_and_config, composite_parameter};
 ghost use Rattle.statement_parser.specs.Lines as lines;
 
 use crate::clauses::parameter_clause;

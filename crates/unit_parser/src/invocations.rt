@@ -1,8 +1,8 @@
 //! Invocations of operators and composites.
 ghost use Rattle.std.specs.Prelude.{[]};
 ghost use Rattle.statement_parser.specs.Gives.{Comes, Gives};
-ghost use Rattle.unit_parser.specs.GivesClauses.{InvocationsOn};
-ghost use Rattle.unit_parser.specs.GivesParts.{operator_and_inputs, listed_stream, input_port};
+ghost use Rattle.unit_parser.specs.steps.GivesClauses.{InvocationsOn};
+ghost use Rattle.unit_parser.specs.steps.GivesParts.{operator_and_inputs, listed_stream, input_port};
 ghost use Rattle.statement_parser.specs.Lines as lines;
 
 use crate::clauses::end;

@@ -2,8 +2,8 @@
 ghost use Rattle.std.specs.Prelude.{◌≡◌, []};
 ghost use Rattle.expr_parser.specs.RuleLaws.{begins_with};
 ghost use Rattle.statement_parser.specs.Gives.{Comes, Gives};
-ghost use Rattle.unit_parser.specs.GivesComposites.{Defines, DefinesOn, PassesNames, begins_type, composite_behind, function_behind, is_type_front, word_begins_type};
-ghost use Rattle.unit_parser.specs.GivesParts.{signature};
+ghost use Rattle.unit_parser.specs.steps.GivesComposites.{Defines, DefinesOn, PassesNames, begins_type, composite_behind, function_behind, is_type_front, word_begins_type};
+ghost use Rattle.unit_parser.specs.steps.GivesParts.{signature};
 ghost use Rattle.statement_parser.specs.Lines as lines;
 
 use crate::composites::{composite, type_definition};

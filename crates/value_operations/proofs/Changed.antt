@@ -17,7 +17,7 @@ use Rattle.language_model.specs.Changes.{passed_on, changed, level_changed, leve
 use Rattle.language_model.specs.Operators.{found, given, level_element}
 use Rattle.value_operations.specs.declared.stop.Stop.{Stop}
 use Rattle.value_operations.specs.declared.stop.Stop.TheVariants as S
-use Rattle.value_operations.specs.Changing.{IsPlaceIn}
+use Rattle.value_operations.specs.steps.Places.{IsPlaceIn}
 use Rattle.value_operations.specs.Changing.{Changes}
 
 -- the result of the change of a part is passed on to the whole

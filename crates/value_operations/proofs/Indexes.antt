@@ -14,7 +14,7 @@ use Rattle.spl_value.proofs.FitsLaws.{fits_int, int_from_fits}
 use Rattle.spl_value.specs.Values.{fits, kind_holds}
 use Rattle.language_model.specs.Changes.{level_index}
 use Rattle.language_model.specs.Operators.{found, element_at, level_element}
-use Rattle.value_operations.specs.Changing.{IsIndex, IsPlaceIn}
+use Rattle.value_operations.specs.steps.Places.{IsIndex, IsPlaceIn}
 use Rattle.value_operations.proofs.Parts.{below}
 use Rattle.spl_value.proofs.Widths.{kept_in_128}
 

@@ -26,7 +26,8 @@ use Rattle.spl_tree.specs.declared.code.UnaryCode.TheVariants as U
 use Rattle.language_model.specs.CodeFits as F
 use Rattle.language_model.specs.CodeFits.{UnaryGives, BinaryGives}
 use Rattle.language_model.specs.Operators.{bool_text, level_unary, unary_of}
-use Rattle.value_operations.specs.Fitting.{FitBinary, FitRelation, FitsUnary}
+use Rattle.value_operations.specs.Fitting.{FitBinary, FitRelation}
+use Rattle.value_operations.specs.steps.Unaries.{FitsUnary}
 use Rattle.value_operations.proofs.Parts.{pairs_of}
 use Rattle.spl_value.proofs.Widths.{kept_in_128}
 

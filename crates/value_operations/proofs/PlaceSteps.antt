@@ -19,7 +19,8 @@ use Rattle.spl_tree.specs.declared.body.Change.TheVariants as H
 use Rattle.spl_tree.specs.declared.code.Selector.{Selector}
 use Rattle.spl_tree.specs.declared.code.Selector.TheVariants as K
 use Rattle.value_operations.specs.Changing as C
-use Rattle.value_operations.specs.Changing.{StepsLeadTo, ArgumentFits, CanChange, IsIndex}
+use Rattle.value_operations.specs.Changing.{StepsLeadTo, ArgumentFits, CanChange}
+use Rattle.value_operations.specs.steps.Places.{IsIndex}
 use Rattle.value_operations.specs.Taking.{HasMember, HasElements, HasKeys}
 use Rattle.value_operations.proofs.Parts.{pairs_of}
 

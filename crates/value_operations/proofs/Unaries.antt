@@ -11,7 +11,8 @@ use Rattle.language_model.specs.CodeFits.{UnaryGives, UnariesGive}
 use Rattle.language_model.specs.Evaluation.{unaries_of}
 use Rattle.language_model.specs.Operators.{unary_of}
 use Rattle.language_model.specs.Outcomes.{Outcome, Done, Faulted, Stuck, followed, settled}
-use Rattle.value_operations.specs.Fitting.{FitsUnary, FitsUnaries}
+use Rattle.value_operations.specs.Fitting.{FitsUnaries}
+use Rattle.value_operations.specs.steps.Unaries.{FitsUnary}
 use Rattle.value_operations.proofs.Operands.{unary_keeps}
 
 done_after : (o : Outcome Value) → o ≡ followed o (λ u turns. Done u turns)

@@ -14,7 +14,7 @@ use Rattle.spl_tree.specs.declared.code.Slot.TheVariants as L
 use Rattle.spl_tree.specs.declared.code.UnaryCode.{UnaryCode}
 use Rattle.language_model.specs.declared.env.Env.{Env}
 use Rattle.language_model.specs.declared.scope.Scope.{Scope}
-use Rattle.language_model.specs.CodeFits.{SlotFits, UnaryGives, UnariesGive, BinaryGives, BuiltInGives}
+use Rattle.language_model.specs.CodeFits.{SlotFits, UnariesGive, BinaryGives, BuiltInGives}
 use Rattle.language_model.specs.WorldFits.{EnvFits}
 
 -- the operator is one of values of such types, and wants both of them
@@ -25,9 +25,6 @@ FitBinary op v w =
 -- the operator asks of values of such types whether something is so, and wants both of them
 abbrev pub FitRelation : BinaryCode → Value → Value → Type 0
 FitRelation op v w = (t : SplType) × (u : SplType) × BinaryGives op t u T.Bool × IsTrue (fits t v) × IsTrue (fits u w) × (op ≢ D.And) × (op ≢ D.Or)
-
-abbrev pub FitsUnary : UnaryCode → Value → Type 0
-FitsUnary op v = (t : SplType) × (u : SplType) × UnaryGives op t u × IsTrue (fits t v)
 
 abbrev pub FitsUnaries : List UnaryCode → Value → Type 0
 FitsUnaries ops v = (t : SplType) × (u : SplType) × UnariesGive ops t u × IsTrue (fits t v)

@@ -2,3 +2,4 @@ pub mod Answers
 pub mod Changing
 pub mod Fitting
 pub mod Taking
+pub mod steps

@@ -6,7 +6,8 @@ ghost use Rattle.spl_value.specs.Pairs.{are_pairs, pairs_put};
 ghost use Rattle.language_model.specs.Changes.{changed, change_of, passed_on};
 ghost use Rattle.spl_tree.specs.declared.body.Change.TheVariants as H;
 ghost use Rattle.spl_tree.specs.declared.code.Selector.TheVariants as K;
-ghost use Rattle.value_operations.specs.Changing.{CanChange, Changes, IsIndex, IsPlaceIn};
+ghost use Rattle.value_operations.specs.Changing.{CanChange, Changes};
+ghost use Rattle.value_operations.specs.steps.Places.{IsIndex, IsPlaceIn};
 
 use crate::stop::Stop;
 use spl_tree::{Change, Selector};

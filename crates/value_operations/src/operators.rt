@@ -14,7 +14,8 @@ ghost use Rattle.language_model.specs.Evaluation.{unaries_of};
 ghost use Rattle.language_model.specs.Outcomes.{Outcome, followed, settled};
 ghost use Rattle.value_operations.specs.declared.held.Held.{Held};
 ghost use Rattle.value_operations.specs.Answers.{Settles, SettlesHeld, AnswersHeld, held};
-ghost use Rattle.value_operations.specs.Fitting.{FitBinary, FitRelation, FitsUnary, FitsUnaries};
+ghost use Rattle.value_operations.specs.Fitting.{FitBinary, FitRelation, FitsUnaries};
+ghost use Rattle.value_operations.specs.steps.Unaries.{FitsUnary};
 
 use crate::held::{Held, owned, stopped};
 use crate::integers::on_integers;

@@ -1,6 +1,6 @@
 use Rattle.std.proofs.Common.{subst}
 use Rattle.expr_parser.specs.Rules.{Reads}
-use Rattle.expr_parser.specs.Gives.{Fronts}
+use Rattle.expr_parser.specs.steps.Parts.{Fronts}
 use Rattle.expr_parser.specs.Lines.{Prefixed, rule}
 use Rattle.expr_parser.proofs.Front.{prefix_on, primary_on, group_on, cast_on, cast_fails}
 use Rattle.expr_parser.proofs.Derive.{exit}

@@ -4,7 +4,8 @@ use Rattle.spl_tree.specs.Trees.{Expr, placed}
 use Rattle.spl_tree.specs.declared.symbol.Symbol.TheVariants as S
 use Rattle.expr_parser.specs.Rules.{done, Answer, Took, RunsTo, Reads}
 use Rattle.expr_parser.specs.Lines.{binary, Whole, Rest, Climb, Chain, Prefixed, Primary, Group, Named, Elements, Items, Brace, Entries, Fields, Steps, expect, rule, choice_rule, operand_rule, list_rule}
-use Rattle.expr_parser.specs.Gives.{Comes, Gives, front_rule, StepFound, StepsOn}
+use Rattle.expr_parser.specs.Gives.{Gives}
+use Rattle.expr_parser.specs.steps.Parts.{Comes, front_rule, StepFound, StepsOn}
 use Rattle.expr_parser.proofs.Derive.{exit, says_on, comes_fail, comes_call}
 use Rattle.expr_parser.proofs.LineSteps.{makes_fails, whole_fails, whole_goes, rest_fails, rest_ends, rest_goes, first_fails, colon_fails, second_fails, choice_goes, climb_ends, climb_fails, climb_goes, chain_ends, operand_fails, right_fails, chain_goes, fronts_fails, prefixed_fails, prefixed_goes, primary_literal, primary_name, primary_list, primary_brace, primary_stops, group_fails, group_goes, named_ends, named_fails, named_goes, list_fails, list_goes, elements_none, elements_start, item_fails, items_stops, items_end, items_go, brace_empty, brace_fails, brace_entries, brace_stops, name_stops, brace_fields, value_fails, entries_end, key_fails, key_stops, entries_go, field_fails, fields_end, next_fails, next_stops, fields_go, steps_fails, steps_end, member_fails, member_found, index_fails, index_stops, index_found}
 use Rattle.expr_parser.proofs.reading.+reader.Goals as goal

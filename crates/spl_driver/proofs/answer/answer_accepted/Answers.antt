@@ -4,7 +4,7 @@ use Rattle.spl_value.specs.declared.memory.NoMemory.{NoMemory}
 use Rattle.run_report.specs.declared.cause.Cause.{Cause}
 use Rattle.spl_driver.specs.Outcome.{OfPlan, OfSize}
 use Rattle.command_line.specs.declared.request.Request.{Request}
-use Rattle.spl_driver.specs.Steps.{ReasonOf}
+use Rattle.spl_driver.specs.steps.Steps.{ReasonOf}
 use Rattle.spl_driver.proofs.Causes.{is_replay}
 use Rattle.spl_driver.specs.Texts.{IsReportText}
 use Rattle.spl_driver.proofs.Showing.{graph_ran, replay_ran, report_ran}

@@ -3,7 +3,7 @@ use Rattle.run_report.specs.declared.cause.Cause.{Cause}
 use Rattle.run_report.specs.declared.cause.Cause.TheVariants as C
 use Rattle.std.specs.Prelude.{Some}
 use Rattle.file_adapters.specs.Sinks.{names_of}
-use Rattle.spl_driver.specs.Steps.{IsRunOf, ReasonOf}
+use Rattle.spl_driver.specs.steps.Steps.{IsRunOf, ReasonOf}
 use Rattle.spl_driver.proofs.Ordering.{follows_not, may_end, partial_kinds, partial_outcome, partial_text, sunk_follows, sunk_in_order, sunk_kinds, text_in_order}
 use Rattle.spl_driver.proofs.Showing.{at_plain, bad_ran}
 use Rattle.spl_driver.proofs.Running.{begun_same, distinct_for, ends_at, lent_behind, not_bad, own_for, partial_counts, partial_files, same_record, sunk_counts, sunk_ran, sunk_reason, sunk_record, sunk_text, unopened_counts, unopened_files, wanting_counts, wanting_files}

@@ -1,5 +1,5 @@
 use Rattle.std.proofs.Common.{◌≡◌, ◌++◌, ◌+◌, length}
-use Rattle.spl_driver.specs.Steps.{counts_from}
+use Rattle.spl_driver.specs.steps.Steps.{counts_from}
 use Rattle.spl_driver.proofs.sinks.sink_counts.Given as goal
 
 abbrev pub invariant-operators : goal.invariant-operators

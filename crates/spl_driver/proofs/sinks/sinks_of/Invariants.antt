@@ -1,5 +1,5 @@
 use Rattle.std.proofs.Common.{◌≡◌, ◌++◌, ◌+◌, length}
-use Rattle.spl_driver.specs.Steps.{sinks_from, sinks_of}
+use Rattle.spl_driver.specs.steps.Steps.{sinks_from, sinks_of}
 use Rattle.spl_driver.proofs.sinks.sinks_of.Given as goal
 
 abbrev pub invariant-operators : goal.invariant-operators

@@ -1,7 +1,7 @@
 use Rattle.std.proofs.Common.{◌∙◌, Option, subst, sym, refl}
 use Rattle.run_report.specs.declared.cause.Cause.TheVariants as C
 use Rattle.command_line.specs.declared.request.Request.{Request}
-use Rattle.spl_driver.specs.Steps.{AnswersRequest}
+use Rattle.spl_driver.specs.steps.Steps.{AnswersRequest}
 use Rattle.spl_driver.proofs.PlainAnswers.{plain_request, no_request_answer}
 use Rattle.spl_driver.proofs.Running.{begun_same}
 use Rattle.spl_driver.proofs.Showing.{quiet_shown}

@@ -7,7 +7,7 @@ use Rattle.spl_tree.specs.declared.expression.ExprKind.TheVariants as X
 use Rattle.spl_tree.specs.declared.statement.StmtKind.TheVariants as Z
 use Rattle.spl_tree.specs.declared.symbol.Symbol.TheVariants as S
 use Rattle.spl_tree.specs.Trees.{Expr, placed, Stmt}
-use Rattle.statement_parser.specs.GivesStatements as statements
+use Rattle.statement_parser.specs.steps.GivesStatements as statements
 use Rattle.statement_parser.specs.Lines.{R, expression_before, is_assignment, assignment_at}
 use Rattle.statement_parser.proofs.Readings.{skipped, taken_as, expression_read, rule_on, rule_fails, expression_fails}
 use Rattle.statement_parser.proofs.StatementReadings.{behind, part_read, part_fails}

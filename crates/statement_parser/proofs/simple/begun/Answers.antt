@@ -2,7 +2,7 @@ use Rattle.std.proofs.Common.{◌≡◌, false, Option, Some, None}
 use Rattle.std.specs.Prelude.{is_some, MatchOption}
 use Rattle.expr_parser.specs.Lines.{is_name}
 use Rattle.expr_parser.specs.Rules.{RunsTo, Reads}
-use Rattle.statement_parser.specs.GivesStatements as statements
+use Rattle.statement_parser.specs.steps.GivesStatements as statements
 use Rattle.statement_parser.specs.Lines as lines
 use Rattle.statement_parser.specs.Lines.{rule, name_at}
 use Rattle.statement_parser.proofs.Readings.{reads, taken, skipped, taken_as, says_on}

@@ -5,7 +5,7 @@ use Rattle.spl_tree.specs.declared.expression.ExprKind.TheVariants as X
 use Rattle.spl_tree.specs.declared.statement.StmtKind.TheVariants as Z
 use Rattle.spl_tree.specs.declared.symbol.Symbol.TheVariants as S
 use Rattle.spl_tree.specs.Trees.{placed}
-use Rattle.statement_parser.specs.GivesStatements as statements
+use Rattle.statement_parser.specs.steps.GivesStatements as statements
 use Rattle.statement_parser.specs.Lines.{expect, rule}
 use Rattle.statement_parser.proofs.Readings.{expression_read, rule_on, rule_fails, expression_fails}
 use Rattle.statement_parser.proofs.simple.called.Goals as goal

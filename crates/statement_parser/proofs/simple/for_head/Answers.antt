@@ -1,7 +1,7 @@
 use Rattle.expr_parser.specs.Rules.{done}
 use Rattle.spl_tree.specs.declared.shape.Attribute.{Attribute}
 use Rattle.spl_tree.specs.Trees.{Expr, TypeExpr}
-use Rattle.statement_parser.specs.GivesStatements as statements
+use Rattle.statement_parser.specs.steps.GivesStatements as statements
 use Rattle.statement_parser.specs.Lines.{R}
 use Rattle.statement_parser.proofs.Readings.{finished, rule_fails}
 use Rattle.statement_parser.proofs.StatementReadings.{behind, part_read, part_fails}

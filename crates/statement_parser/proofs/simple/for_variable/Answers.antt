@@ -1,6 +1,6 @@
 use Rattle.spl_tree.specs.declared.symbol.Symbol.TheVariants as S
-use Rattle.statement_parser.specs.GivesStatements as statements
-use Rattle.statement_parser.specs.Lines.{attribute_rule}
+use Rattle.statement_parser.specs.steps.GivesStatements as statements
+use Rattle.statement_parser.specs.steps.Parts.{attribute_rule}
 use Rattle.statement_parser.proofs.Readings.{passed, rule_on, rule_fails, pass_fails}
 use Rattle.statement_parser.proofs.simple.for_variable.Goals as goal
 

@@ -1,6 +1,6 @@
 use Rattle.spl_tree.specs.declared.keyword.Keyword.TheVariants as K
 use Rattle.spl_tree.specs.declared.symbol.Symbol.TheVariants as S
-use Rattle.statement_parser.specs.GivesStatements as statements
+use Rattle.statement_parser.specs.steps.GivesStatements as statements
 use Rattle.statement_parser.specs.Lines.{expression_before}
 use Rattle.statement_parser.proofs.Readings.{word_passed, rule_on, rule_fails, word_fails}
 use Rattle.statement_parser.proofs.simple.gone_over.Goals as goal

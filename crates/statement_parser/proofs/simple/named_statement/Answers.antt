@@ -1,6 +1,6 @@
 use Rattle.std.proofs.Common.{◌∙◌, true, subst}
 use Rattle.expr_parser.specs.Rules.{done, call, Took, RunsTo, Reads}
-use Rattle.statement_parser.specs.GivesStatements as statements
+use Rattle.statement_parser.specs.steps.GivesStatements as statements
 use Rattle.statement_parser.specs.Lines as lines
 use Rattle.statement_parser.specs.Lines.{Begun, rule}
 use Rattle.statement_parser.proofs.Readings.{finished, taken, skipped, line_read, says_on, rule_fails, line_fails}

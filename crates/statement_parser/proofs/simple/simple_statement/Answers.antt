@@ -1,6 +1,6 @@
 use Rattle.expr_parser.specs.Rules.{RunsTo}
 use Rattle.spl_tree.specs.declared.statement.StmtKind.TheVariants as Z
-use Rattle.statement_parser.specs.GivesStatements as statements
+use Rattle.statement_parser.specs.steps.GivesStatements as statements
 use Rattle.statement_parser.specs.Lines as lines
 use Rattle.statement_parser.specs.Lines.{rule}
 use Rattle.statement_parser.proofs.Readings.{taken, skipped, says_on}

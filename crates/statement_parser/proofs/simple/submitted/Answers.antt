@@ -3,7 +3,8 @@ use Rattle.spl_tree.specs.declared.statement.StmtKind.TheVariants as Z
 use Rattle.spl_tree.specs.declared.symbol.Symbol.TheVariants as S
 use Rattle.spl_tree.specs.Trees.{Expr, Stmt}
 use Rattle.statement_parser.specs.Lines as lines
-use Rattle.statement_parser.specs.Lines.{Name, R, expression_between, name_before}
+use Rattle.statement_parser.specs.Lines.{Name, R, name_before}
+use Rattle.statement_parser.specs.steps.Parts.{expression_between}
 use Rattle.statement_parser.proofs.Readings.{rule_on, rule_fails}
 use Rattle.statement_parser.proofs.StatementReadings.{behind, part_read, part_fails}
 use Rattle.statement_parser.proofs.simple.submitted.Goals as goal

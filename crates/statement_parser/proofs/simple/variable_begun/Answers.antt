@@ -5,7 +5,7 @@ use Rattle.spl_tree.specs.declared.shape.TypeKind.TheVariants as Y
 use Rattle.spl_tree.specs.declared.statement.StmtKind.TheVariants as Z
 use Rattle.spl_tree.specs.Trees.{placed}
 use Rattle.statement_parser.specs.Gives.{Gives}
-use Rattle.statement_parser.specs.GivesStatements as statements
+use Rattle.statement_parser.specs.steps.GivesStatements as statements
 use Rattle.statement_parser.specs.Lines.{Valued, rule}
 use Rattle.statement_parser.proofs.Readings.{line_read, rule_on, rule_fails, line_fails}
 use Rattle.statement_parser.proofs.simple.variable_begun.Goals as goal

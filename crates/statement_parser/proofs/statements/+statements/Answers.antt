@@ -4,7 +4,7 @@ use Rattle.spl_tree.specs.declared.shape.Attribute.{Attribute}
 use Rattle.spl_tree.specs.declared.statement.StmtKind.TheVariants as Z
 use Rattle.spl_tree.specs.declared.token.Token.{Token}
 use Rattle.spl_tree.specs.Trees.{Expr, placed, Stmt, TypeExpr}
-use Rattle.statement_parser.specs.GivesStatements as parts
+use Rattle.statement_parser.specs.steps.GivesStatements as parts
 use Rattle.statement_parser.specs.Lines as lines
 use Rattle.statement_parser.specs.Lines.{R, Statement, Statements, Other, Begun, Arms, rule}
 use Rattle.statement_parser.proofs.Readings.{finished, reads, taken, skipped, line_read, says_on, rule_on, fails, rule_fails, line_fails}

@@ -8,8 +8,9 @@ use Rattle.statement_parser.proofs.Readings.{finished, reads, taken, taken_as, s
 use Rattle.statement_parser.proofs.Sequences.{pushed, pushed_fails}
 use Rattle.statement_parser.proofs.StatementReadings.{behind, part_read, part_fails}
 use Rattle.statement_parser.proofs.TypeReadings.{goes, tail, one_more, more_read, attribute_read}
-use Rattle.statement_parser.specs.Gives.{TypeFirst}
+use Rattle.statement_parser.specs.steps.GivesTypes.{TypeFirst}
 use Rattle.statement_parser.specs.Lines as lines
+use Rattle.statement_parser.specs.steps.Parts as part_rules
 use Rattle.statement_parser.specs.Lines.{R, TypeExpression, ListType, MapType, TupleType, Attributes, MoreAttributes, expect, is_type, type_of, rule}
 use Rattle.statement_parser.proofs.types.+types.Goals as goal
 use Rattle.expr_parser.proofs.Locality.{runs_shrinks, taken_shrinks}
@@ -97,24 +98,24 @@ map_type-returns t c =
 
 pub attribute-returns-in_err-kind : goal.attribute-returns-in_err-kind
 attribute-returns-in_err-kind t c =
-    rule_fails lines.attribute_rule _ c.args.ts.now c.args.ts.now _ c.in_err-kind.field-0.0 c.from_residual.ensures.1 (λ o q. q)
-    (line_fails _ TypeExpression lines.named_attribute_rule _ c.in_err-kind.ensures)
+    rule_fails part_rules.attribute_rule _ c.args.ts.now c.args.ts.now _ c.in_err-kind.field-0.0 c.from_residual.ensures.1 (λ o q. q)
+    (line_fails _ TypeExpression part_rules.named_attribute_rule _ c.in_err-kind.ensures)
 
 pub attribute-returns : goal.attribute-returns
 attribute-returns t c =
-    rule_on lines.attribute_rule (lines.named_attribute_rule c.in_ok-kind.kind) c.args.ts.now c.in_ok-kind.behind.now c.named_attribute.result
+    rule_on part_rules.attribute_rule (part_rules.named_attribute_rule c.in_ok-kind.kind) c.args.ts.now c.in_ok-kind.behind.now c.named_attribute.result
     (λ o q. line_read c.in_ok-kind.ensures q) c.named_attribute.ensures
 
 pub attributes-returns-in_err-behind : goal.attributes-returns-in_err-behind
 unfolding rule
 attributes-returns-in_err-behind t c =
     fails (Attributes c.args.close []) c.args.ts.now c.args.ts.now _ c.from_residual.result c.in_err-behind.field-0.0 c.from_residual.ensures.1 (λ o q. reads q)
-    (part_fails lines.attribute_rule (one_more c.args.close []) _ _
-    (pushed_fails (RunsTo rule lines.attribute_rule c.args.ts.now) _ _ c.attribute.result _ c.attribute.ensures c.in_err-behind.ensures))
+    (part_fails part_rules.attribute_rule (one_more c.args.close []) _ _
+    (pushed_fails (RunsTo rule part_rules.attribute_rule c.args.ts.now) _ _ c.attribute.result _ c.attribute.ensures c.in_err-behind.ensures))
 
 pub attributes-returns : goal.attributes-returns
 attributes-returns t c =
-    let first = pushed (RunsTo rule lines.attribute_rule c.args.ts.now) _ _ c.attribute.result _ c.attribute.ensures c.in_ok-behind.ensures in
+    let first = pushed (RunsTo rule part_rules.attribute_rule c.args.ts.now) _ _ c.attribute.result _ c.attribute.ensures c.in_ok-behind.ensures in
     says_on (λ o q. attribute_read c.args.close [] first.said
     (subst (λ xs. Reads rule (MoreAttributes c.args.close xs) c.in_ok-behind.behind.now o) (first.is ∙ ap (λ xs. xs ++ first.one ∷ []) c.new-first.ensures) q))
     c.more_attributes.result c.more_attributes.ensures
@@ -130,19 +131,19 @@ unfolding rule
 more_attributes-returns-in_err-behind t c =
     fails (MoreAttributes c.args.close c.args.first) c.args.ts.now c.in-Some.behind.now _ c.from_residual.result c.in_err-behind.field-0.0 c.from_residual.ensures.1
     (λ o q. c.attributes.invariant o (more_read c.args.close c.attributes.all c.in-Some.ensures (reads q)))
-    (part_fails lines.attribute_rule (one_more c.args.close c.attributes.all) _ _
-    (pushed_fails (RunsTo rule lines.attribute_rule c.in-Some.behind.now) _ _ c.attribute.result _ c.attribute.ensures c.in_err-behind.ensures))
+    (part_fails part_rules.attribute_rule (one_more c.args.close c.attributes.all) _ _
+    (pushed_fails (RunsTo rule part_rules.attribute_rule c.in-Some.behind.now) _ _ c.attribute.result _ c.attribute.ensures c.in_err-behind.ensures))
 
 pub more_attributes-attributes-smaller : goal.more_attributes-attributes-smaller
 more_attributes-attributes-smaller t c =
-    let next = pushed (RunsTo rule lines.attribute_rule c.in-Some.behind.now) _ _ c.attribute.result _ c.attribute.ensures c.in_ok-behind.ensures in
+    let next = pushed (RunsTo rule part_rules.attribute_rule c.in-Some.behind.now) _ _ c.attribute.result _ c.attribute.ensures c.in_ok-behind.ensures in
     let one = taken_shrinks c.in-Some.ensures in
     let two = runs_shrinks next.said in
     omega arith
 
 pub more_attributes-attributes-preserved : goal.more_attributes-attributes-preserved
 more_attributes-attributes-preserved t c =
-    let next = pushed (RunsTo rule lines.attribute_rule c.in-Some.behind.now) _ _ c.attribute.result _ c.attribute.ensures c.in_ok-behind.ensures in
+    let next = pushed (RunsTo rule part_rules.attribute_rule c.in-Some.behind.now) _ _ c.attribute.result _ c.attribute.ensures c.in_ok-behind.ensures in
     λ o r. c.attributes.invariant o (more_read c.args.close c.attributes.all c.in-Some.ensures (attribute_read c.args.close c.attributes.all next.said
     (subst (λ xs. Reads rule (MoreAttributes c.args.close xs) c.in_ok-behind.behind.now o) next.is r)))
 

@@ -3,7 +3,7 @@ use Rattle.spl_tree.specs.Trees.{Expr}
 use Rattle.spl_tree.specs.declared.symbol.Symbol.TheVariants as S
 use Rattle.expr_parser.specs.Lines as expressions
 use Rattle.expr_parser.specs.Rules.{done, call}
-use Rattle.unit_parser.specs.GivesParts.{assignment}
+use Rattle.unit_parser.specs.steps.GivesParts.{assignment}
 use Rattle.statement_parser.specs.Lines.{Name, R, name_before, Expression}
 use Rattle.statement_parser.proofs.Readings.{finished, expression_read, rule_fails, expression_fails}
 use Rattle.statement_parser.proofs.StatementReadings.{part_read, part_fails}

@@ -4,7 +4,7 @@ use Rattle.spl_tree.specs.declared.expression.Field.{Field}
 use Rattle.spl_tree.specs.Trees.{Expr}
 use Rattle.expr_parser.specs.Lines as expressions
 use Rattle.expr_parser.specs.Rules.{done, look, call, RunsTo, Reads}
-use Rattle.unit_parser.specs.GivesParts.{assignment}
+use Rattle.unit_parser.specs.steps.GivesParts.{assignment}
 use Rattle.statement_parser.specs.Lines.{R, expect}
 use Rattle.statement_parser.specs.Lines as lines
 use Rattle.statement_parser.proofs.Readings.{reads, taken, skipped, fails}

@@ -8,7 +8,7 @@ use Rattle.spl_tree.specs.declared.unit.Parameter.{Parameter}
 use Rattle.spl_tree.specs.declared.unit.PortWindow.{PortWindow}
 use Rattle.expr_parser.specs.Rules.{done, Answer, RunsTo, Reads}
 use Rattle.spl_tree.specs.declared.symbol.Symbol.TheVariants as S
-use Rattle.unit_parser.specs.GivesParts.{logic_and_window, param_to_config}
+use Rattle.unit_parser.specs.steps.GivesParts.{logic_and_window, param_to_config}
 use Rattle.statement_parser.specs.Lines as lines
 use Rattle.statement_parser.specs.Lines.{R, rule}
 use Rattle.statement_parser.proofs.Readings.{finished, reads, taken, skipped, passed, fails, pass_fails}

@@ -1,5 +1,5 @@
 use Rattle.std.proofs.Common.{subst, sym}
-use Rattle.unit_parser.specs.GivesClauses.{EventFirst}
+use Rattle.unit_parser.specs.steps.GivesClauses.{EventFirst}
 use Rattle.statement_parser.specs.Lines as lines
 use Rattle.statement_parser.proofs.Readings.{finished, reads, taken, skipped}
 use Rattle.unit_parser.proofs.clauses.event_first.Goals as goal

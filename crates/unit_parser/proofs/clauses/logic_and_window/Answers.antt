@@ -4,7 +4,7 @@ use Rattle.spl_tree.specs.declared.unit.Logic.{Logic}
 use Rattle.spl_tree.specs.declared.unit.PortWindow.{PortWindow}
 use Rattle.expr_parser.specs.Rules.{done, call}
 use Rattle.statement_parser.proofs.Readings.{finished, line_read, rule_fails, line_fails}
-use Rattle.unit_parser.specs.GivesParts.{logic_and_window}
+use Rattle.unit_parser.specs.steps.GivesParts.{logic_and_window}
 use Rattle.statement_parser.specs.Lines.{R, LogicClause, WindowClause}
 use Rattle.unit_parser.proofs.clauses.logic_and_window.Goals as goal
 

@@ -6,7 +6,7 @@ use Rattle.spl_tree.specs.declared.unit.OutputAssignments.{OutputAssignments}
 use Rattle.spl_tree.specs.declared.unit.Parameter.{Parameter}
 use Rattle.expr_parser.specs.Rules.{done, call}
 use Rattle.statement_parser.proofs.Readings.{line_read, rule_on, rule_fails, line_fails}
-use Rattle.unit_parser.specs.GivesParts.{output_and_config}
+use Rattle.unit_parser.specs.steps.GivesParts.{output_and_config}
 use Rattle.statement_parser.specs.Lines.{R, ParameterClause, OutputClause, expect}
 use Rattle.unit_parser.proofs.clauses.output_and_config.Goals as goal
 

@@ -2,7 +2,7 @@ use Rattle.std.proofs.Common.{List, subst, [], ◌∷◌, ◌++◌}
 use Rattle.spl_tree.specs.declared.symbol.Symbol.TheVariants as S
 use Rattle.spl_tree.specs.declared.unit.OutputAssignments.{OutputAssignments}
 use Rattle.expr_parser.specs.Rules.{done, call, Took, RunsTo, Reads}
-use Rattle.unit_parser.specs.GivesParts.{stream_assignments}
+use Rattle.unit_parser.specs.steps.GivesParts.{stream_assignments}
 use Rattle.statement_parser.specs.Lines.{Name, R, expect}
 use Rattle.statement_parser.specs.Lines as lines
 use Rattle.statement_parser.proofs.Readings.{finished, reads, skipped, fails}

@@ -6,7 +6,7 @@ use Rattle.spl_tree.specs.declared.unit.Parameter.{Parameter}
 use Rattle.expr_parser.specs.Rules.{done}
 use Rattle.statement_parser.proofs.Readings.{finished, line_read, rule_fails, line_fails}
 use Rattle.statement_parser.proofs.StatementReadings.{behind, part_read, part_fails}
-use Rattle.unit_parser.specs.GivesParts.{param_to_config, output_and_config}
+use Rattle.unit_parser.specs.steps.GivesParts.{param_to_config, output_and_config}
 use Rattle.statement_parser.specs.Lines.{R, ParameterClause}
 use Rattle.unit_parser.proofs.clauses.param_to_config.Goals as goal
 

@@ -3,7 +3,7 @@ use Rattle.spl_tree.specs.declared.symbol.Symbol.TheVariants as S
 use Rattle.spl_tree.specs.declared.unit.Parameter.{Parameter}
 use Rattle.expr_parser.specs.Lines as expressions
 use Rattle.expr_parser.specs.Rules.{done, call, Took, RunsTo, Reads}
-use Rattle.unit_parser.specs.GivesParts.{parameter}
+use Rattle.unit_parser.specs.steps.GivesParts.{parameter}
 use Rattle.statement_parser.specs.Lines.{Name, R, expect}
 use Rattle.statement_parser.specs.Lines as lines
 use Rattle.statement_parser.proofs.Readings.{finished, reads, skipped, fails}

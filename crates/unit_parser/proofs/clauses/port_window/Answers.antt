@@ -2,7 +2,7 @@ use Rattle.std.specs.Prelude.{[]}
 use Rattle.spl_tree.specs.declared.unit.PortWindow.{PortWindow}
 use Rattle.spl_tree.specs.declared.symbol.Symbol.TheVariants as S
 use Rattle.expr_parser.specs.Rules.{done, call}
-use Rattle.unit_parser.specs.GivesParts.{port_window}
+use Rattle.unit_parser.specs.steps.GivesParts.{port_window}
 use Rattle.statement_parser.specs.Lines.{Name, R, name_before, WindowParts}
 use Rattle.statement_parser.proofs.Readings.{finished, line_read, rule_fails, line_fails}
 use Rattle.statement_parser.proofs.StatementReadings.{part_read, part_fails}

@@ -1,6 +1,6 @@
 use Rattle.spl_tree.specs.declared.unit.WindowPart.{WindowPart}
 use Rattle.expr_parser.specs.Rules.{done, call}
-use Rattle.unit_parser.specs.GivesParts.{window_part}
+use Rattle.unit_parser.specs.steps.GivesParts.{window_part}
 use Rattle.statement_parser.specs.Lines.{Name, R, PartArguments}
 use Rattle.statement_parser.proofs.Readings.{finished, name_passed, line_read, rule_fails, name_fails, line_fails}
 use Rattle.unit_parser.proofs.clauses.window_part.Goals as goal

@@ -5,7 +5,7 @@ use Rattle.spl_tree.specs.declared.unit.HeadPort.{HeadPort}
 use Rattle.statement_parser.proofs.Readings.{finished, line_read, rule_fails, line_fails}
 use Rattle.statement_parser.proofs.StatementReadings.{behind, part_read, part_fails}
 use Rattle.statement_parser.specs.Lines.{R, Ports}
-use Rattle.unit_parser.specs.GivesComposites.{both_ports_rule, other_ports_rule}
+use Rattle.unit_parser.specs.steps.GivesComposites.{both_ports_rule, other_ports_rule}
 use Rattle.unit_parser.proofs.composites.both_ports.Goals as goal
 
 -- the rule after the other ports, and after the first ones

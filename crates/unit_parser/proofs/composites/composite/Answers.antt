@@ -9,7 +9,7 @@ use Rattle.spl_tree.specs.declared.unit.TypeDefinition.{TypeDefinition}
 use Rattle.statement_parser.proofs.Readings.{finished, reads, name_passed, line_read, fails, name_fails, line_fails}
 use Rattle.unit_parser.proofs.CompositeReadings.{composite_named}
 use Rattle.statement_parser.proofs.StatementReadings.{part_read, part_fails}
-use Rattle.unit_parser.specs.GivesParts.{composite_clauses}
+use Rattle.unit_parser.specs.steps.GivesParts.{composite_clauses}
 use Rattle.statement_parser.specs.Lines as lines
 use Rattle.statement_parser.specs.Lines.{Name, R}
 use Rattle.unit_parser.proofs.composites.composite.Goals as goal

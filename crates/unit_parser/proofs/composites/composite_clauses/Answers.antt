@@ -6,7 +6,7 @@ use Rattle.spl_tree.specs.declared.unit.Parameter.{Parameter}
 use Rattle.spl_tree.specs.declared.unit.TypeDefinition.{TypeDefinition}
 use Rattle.statement_parser.proofs.Readings.{finished, rule_fails}
 use Rattle.statement_parser.proofs.StatementReadings.{behind, part_read, part_fails}
-use Rattle.unit_parser.specs.GivesParts.{composite_clauses, parameters_and_types, graph_and_config}
+use Rattle.unit_parser.specs.steps.GivesParts.{composite_clauses, parameters_and_types, graph_and_config}
 use Rattle.statement_parser.specs.Lines.{R}
 use Rattle.unit_parser.proofs.composites.composite_clauses.Goals as goal
 

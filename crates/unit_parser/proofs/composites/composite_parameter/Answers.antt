@@ -4,7 +4,7 @@ use Rattle.spl_tree.specs.Trees.{TypeExpr}
 use Rattle.expr_parser.specs.Rules.{done, stop, look, call, RunsTo, Reads}
 use Rattle.statement_parser.proofs.Readings.{dollar_passed, says_on, rule_fails, dollar_fails}
 use Rattle.statement_parser.proofs.StatementReadings.{part_read, part_fails}
-use Rattle.unit_parser.specs.GivesParts.{composite_parameter}
+use Rattle.unit_parser.specs.steps.GivesParts.{composite_parameter}
 use Rattle.statement_parser.specs.Lines.{Name, R, Default, is_dollar, dollar_at, rule, type_between}
 use Rattle.unit_parser.proofs.composites.composite_parameter.Goals as goal
 use Rattle.expr_parser.specs.RuleLaws.{runs_last}

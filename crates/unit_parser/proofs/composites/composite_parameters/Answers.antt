@@ -4,7 +4,7 @@ use Rattle.expr_parser.specs.Rules.{done, call, Took, RunsTo, Reads}
 use Rattle.statement_parser.proofs.Readings.{finished, reads, taken, skipped, fails}
 use Rattle.statement_parser.proofs.Sequences.{pushed, pushed_fails}
 use Rattle.statement_parser.proofs.StatementReadings.{part_read, part_fails}
-use Rattle.unit_parser.specs.GivesParts.{composite_parameter}
+use Rattle.unit_parser.specs.steps.GivesParts.{composite_parameter}
 use Rattle.statement_parser.specs.Lines as lines
 use Rattle.statement_parser.specs.Lines.{R}
 use Rattle.unit_parser.proofs.composites.composite_parameters.Goals as goal

@@ -5,7 +5,7 @@ use Rattle.spl_tree.specs.declared.symbol.Symbol.TheVariants as S
 use Rattle.spl_tree.specs.declared.unit.Invocation.{Invocation}
 use Rattle.spl_tree.specs.declared.unit.Parameter.{Parameter}
 use Rattle.statement_parser.proofs.Readings.{line_read, rule_on, rule_fails, line_fails}
-use Rattle.unit_parser.specs.GivesParts.{graph_and_config}
+use Rattle.unit_parser.specs.steps.GivesParts.{graph_and_config}
 use Rattle.statement_parser.specs.Lines.{R, GraphClause, ParameterClause, expect}
 use Rattle.unit_parser.proofs.composites.graph_and_config.Goals as goal
 

@@ -5,7 +5,7 @@ use Rattle.std.specs.Prelude.{List}
 use Rattle.expr_parser.specs.Rules.{done, Took, Reads}
 use Rattle.statement_parser.proofs.Readings.{finished, reads, taken, skipped, word_passed, fails, word_fails}
 use Rattle.statement_parser.proofs.TypeReadings.{goes}
-use Rattle.unit_parser.specs.GivesComposites.{both_ports_rule}
+use Rattle.unit_parser.specs.steps.GivesComposites.{both_ports_rule}
 use Rattle.statement_parser.specs.Lines as lines
 use Rattle.statement_parser.specs.Lines.{R}
 use Rattle.unit_parser.proofs.composites.head_ports.Goals as goal

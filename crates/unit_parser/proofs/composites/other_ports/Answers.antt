@@ -3,7 +3,7 @@ use Rattle.expr_parser.specs.Rules.{done, call, RunsTo}
 use Rattle.spl_tree.specs.declared.symbol.Symbol.TheVariants as S
 use Rattle.statement_parser.proofs.Readings.{taken, skipped, word_passed, line_read, rule_on, rule_fails, word_fails, line_fails}
 use Rattle.statement_parser.specs.Lines.{Ports, expect, rule}
-use Rattle.unit_parser.specs.GivesComposites.{other_ports_rule}
+use Rattle.unit_parser.specs.steps.GivesComposites.{other_ports_rule}
 use Rattle.unit_parser.proofs.composites.other_ports.Goals as goal
 
 pub returns-in_default : goal.returns-in_default

@@ -4,7 +4,7 @@ use Rattle.spl_tree.specs.declared.symbol.Symbol.TheVariants as S
 use Rattle.spl_tree.specs.declared.unit.CompositeParameter.{CompositeParameter}
 use Rattle.spl_tree.specs.declared.unit.TypeDefinition.{TypeDefinition}
 use Rattle.statement_parser.proofs.Readings.{finished, passed, line_read, rule_fails, pass_fails, line_fails}
-use Rattle.unit_parser.specs.GivesParts.{parameters_and_types}
+use Rattle.unit_parser.specs.steps.GivesParts.{parameters_and_types}
 use Rattle.statement_parser.specs.Lines.{R, CompositeParameterClause, TypeClause}
 use Rattle.unit_parser.proofs.composites.parameters_and_types.Goals as goal
 

@@ -5,7 +5,7 @@ use Rattle.spl_tree.specs.declared.token.Token.{Token}
 use Rattle.spl_tree.specs.declared.unit.Invocation.{Invocation}
 use Rattle.expr_parser.specs.Rules.{Took, Reads}
 use Rattle.statement_parser.specs.Gives.{Gives}
-use Rattle.unit_parser.specs.GivesClauses.{InvocationFound, InvocationsOn}
+use Rattle.unit_parser.specs.steps.GivesClauses.{InvocationFound, InvocationsOn}
 use Rattle.statement_parser.specs.Lines as lines
 use Rattle.statement_parser.proofs.Readings.{says_on}
 use Rattle.unit_parser.proofs.invocations.graph.Goals as goal

@@ -1,7 +1,7 @@
 use Rattle.std.specs.Prelude.{List, []}
 use Rattle.spl_tree.specs.declared.unit.InputPort.{InputPort}
 use Rattle.expr_parser.specs.Rules.{done, call}
-use Rattle.unit_parser.specs.GivesParts.{input_port}
+use Rattle.unit_parser.specs.steps.GivesParts.{input_port}
 use Rattle.statement_parser.specs.Lines.{Name, R, Alias, InputStreams}
 use Rattle.statement_parser.proofs.Readings.{finished, line_read, rule_fails, line_fails}
 use Rattle.unit_parser.proofs.invocations.input_port.Goals as goal

@@ -7,7 +7,7 @@ use Rattle.spl_tree.specs.declared.unit.OutputStream.{OutputStream}
 use Rattle.std.specs.Prelude.{Option}
 use Rattle.expr_parser.specs.Rules.{done, call, Answer, Refused, Reads, RunsTo}
 use Rattle.statement_parser.specs.Gives.{Comes}
-use Rattle.unit_parser.specs.GivesClauses.{InvocationsOn}
+use Rattle.unit_parser.specs.steps.GivesClauses.{InvocationsOn}
 use Rattle.statement_parser.specs.Lines.{Name, R}
 use Rattle.statement_parser.specs.Lines as lines
 use Rattle.statement_parser.proofs.Readings.{finished, reads, taken, skipped, line_read, line_fails}

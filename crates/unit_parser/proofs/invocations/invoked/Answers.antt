@@ -3,7 +3,7 @@ use Rattle.spl_tree.specs.declared.unit.InputPort.{InputPort}
 use Rattle.spl_tree.specs.declared.unit.Invocation.{Invocation}
 use Rattle.spl_tree.specs.declared.unit.OutputStream.{OutputStream}
 use Rattle.expr_parser.specs.Rules.{done, call}
-use Rattle.unit_parser.specs.GivesParts.{operator_and_inputs}
+use Rattle.unit_parser.specs.steps.GivesParts.{operator_and_inputs}
 use Rattle.statement_parser.specs.Lines as lines
 use Rattle.statement_parser.specs.Lines.{Name, R}
 use Rattle.statement_parser.proofs.Readings.{finished, reads, line_read, fails, line_fails}

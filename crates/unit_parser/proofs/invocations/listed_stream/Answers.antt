@@ -1,6 +1,6 @@
 use Rattle.spl_tree.specs.declared.keyword.Keyword.TheVariants as K
 use Rattle.expr_parser.specs.Rules.{done, call}
-use Rattle.unit_parser.specs.GivesParts.{listed_stream}
+use Rattle.unit_parser.specs.steps.GivesParts.{listed_stream}
 use Rattle.statement_parser.specs.Lines.{Stream}
 use Rattle.statement_parser.proofs.Readings.{word_passed, rule_on, rule_fails, word_fails}
 use Rattle.statement_parser.proofs.TypeReadings.{tail}

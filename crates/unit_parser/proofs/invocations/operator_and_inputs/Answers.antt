@@ -2,7 +2,7 @@ use Rattle.std.specs.Prelude.{List}
 use Rattle.spl_tree.specs.declared.symbol.Symbol.TheVariants as S
 use Rattle.spl_tree.specs.declared.unit.InputPort.{InputPort}
 use Rattle.expr_parser.specs.Rules.{done, call}
-use Rattle.unit_parser.specs.GivesParts.{operator_and_inputs}
+use Rattle.unit_parser.specs.steps.GivesParts.{operator_and_inputs}
 use Rattle.statement_parser.specs.Lines.{Name, R, Inputs, name_before}
 use Rattle.statement_parser.proofs.Readings.{finished, passed, line_read, rule_fails, pass_fails, line_fails}
 use Rattle.statement_parser.proofs.StatementReadings.{behind, part_read, part_fails}

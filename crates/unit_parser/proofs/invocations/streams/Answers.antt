@@ -3,7 +3,7 @@ use Rattle.spl_tree.specs.declared.symbol.Symbol.TheVariants as S
 use Rattle.spl_tree.specs.declared.unit.OutputStream.{OutputStream}
 use Rattle.expr_parser.specs.Lines as expressions
 use Rattle.expr_parser.specs.Rules.{done, look, call, RunsTo, Reads}
-use Rattle.unit_parser.specs.GivesParts.{listed_stream}
+use Rattle.unit_parser.specs.steps.GivesParts.{listed_stream}
 use Rattle.statement_parser.specs.Lines.{R, expect}
 use Rattle.statement_parser.specs.Lines as lines
 use Rattle.statement_parser.proofs.Readings.{reads, taken, skipped, fails}

@@ -1,6 +1,6 @@
 use Rattle.statement_parser.proofs.Readings.{line_fails, line_read}
 use Rattle.statement_parser.specs.Lines as lines
-use Rattle.unit_parser.specs.GivesComposites.{composite_behind}
+use Rattle.unit_parser.specs.steps.GivesComposites.{composite_behind}
 use Rattle.unit_parser.proofs.DefinitionReadings.{composite_shrinks, defines_none}
 use Rattle.unit_parser.proofs.units.composite_defined.Goals as goal
 use Rattle.expr_parser.specs.RuleLaws.{runs_last}

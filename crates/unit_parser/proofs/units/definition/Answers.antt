@@ -3,7 +3,7 @@ use Rattle.spl_tree.specs.declared.keyword.Keyword.TheVariants as K
 use Rattle.statement_parser.proofs.Readings.{reads, taken, skipped, word_passed, line_read, word_fails, line_fails}
 use Rattle.unit_parser.proofs.CompositeReadings.{rule_comes}
 use Rattle.unit_parser.proofs.DefinitionReadings.{type_behind, define_fails, defines, NoWord, no_more, typed, typed_read}
-use Rattle.unit_parser.specs.GivesComposites.{composite_behind, function_behind}
+use Rattle.unit_parser.specs.steps.GivesComposites.{composite_behind, function_behind}
 use Rattle.statement_parser.specs.Lines as lines
 use Rattle.unit_parser.proofs.units.definition.Goals as goal
 use Rattle.expr_parser.proofs.Locality.{reads_shrinks, taken_shrinks}

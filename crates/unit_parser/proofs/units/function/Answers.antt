@@ -5,7 +5,7 @@ use Rattle.spl_tree.specs.declared.unit.FunctionDefinition.{FunctionDefinition}
 use Rattle.spl_tree.specs.Trees.{TypeExpr}
 use Rattle.statement_parser.proofs.Readings.{finished, reads, line_read, fails, line_fails}
 use Rattle.statement_parser.proofs.StatementReadings.{part_read, part_fails}
-use Rattle.unit_parser.specs.GivesParts.{signature}
+use Rattle.unit_parser.specs.steps.GivesParts.{signature}
 use Rattle.statement_parser.specs.Lines as lines
 use Rattle.statement_parser.specs.Lines.{Name, R}
 use Rattle.unit_parser.proofs.units.function.Goals as goal

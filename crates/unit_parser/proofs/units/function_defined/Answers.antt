@@ -1,6 +1,6 @@
 use Rattle.statement_parser.proofs.Readings.{line_fails, line_read}
 use Rattle.statement_parser.specs.Lines as lines
-use Rattle.unit_parser.specs.GivesComposites.{function_behind}
+use Rattle.unit_parser.specs.steps.GivesComposites.{function_behind}
 use Rattle.unit_parser.proofs.DefinitionReadings.{function_shrinks, defines_none}
 use Rattle.unit_parser.proofs.units.function_defined.Goals as goal
 use Rattle.expr_parser.specs.RuleLaws.{runs_last}

@@ -5,7 +5,7 @@ use Rattle.spl_tree.specs.declared.symbol.Symbol.TheVariants as S
 use Rattle.spl_tree.specs.Trees.{TypeExpr}
 use Rattle.statement_parser.proofs.Readings.{finished, line_read, rule_fails, line_fails}
 use Rattle.statement_parser.proofs.StatementReadings.{part_read, part_fails}
-use Rattle.unit_parser.specs.GivesParts.{signature}
+use Rattle.unit_parser.specs.steps.GivesParts.{signature}
 use Rattle.statement_parser.specs.Lines.{Name, R, FunctionParameters, name_before}
 use Rattle.unit_parser.proofs.units.signature.Goals as goal
 

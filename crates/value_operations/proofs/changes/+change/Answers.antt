@@ -5,7 +5,8 @@ use Rattle.spl_value.specs.declared.value.Value.{Value}
 use Rattle.spl_value.specs.declared.value.Value.TheVariants as V
 use Rattle.spl_tree.specs.declared.code.Selector.TheVariants as K
 use Rattle.language_model.specs.Changes.{changed, change_of, level_changed}
-use Rattle.value_operations.specs.Changing.{CanChange, Changes, IsPlaceIn}
+use Rattle.value_operations.specs.Changing.{CanChange, Changes}
+use Rattle.value_operations.specs.steps.Places.{IsPlaceIn}
 use Rattle.value_operations.proofs.Parts.{not_tuple, member_within, not_list, not_map, keys_rise}
 use Rattle.value_operations.proofs.PlaceSteps.{rest_of, first_and_rest, tuple_has_member, member_can_change, list_has_elements, element_can_change, map_has_keys, value_can_change}
 use Rattle.value_operations.proofs.Changed.{element_changes, element_missing, member_changes, not_changed, value_changes, value_added, value_missing}

@@ -16,7 +16,8 @@ use Rattle.expr_parser.specs.RuleLaws.{begins_with}
 use Rattle.expr_parser.specs.Rules.{done, stop, look, call}
 use Rattle.expr_parser.specs.Taken.{Taken}
 use Rattle.statement_parser.specs.Lines as lines
-use Rattle.statement_parser.specs.Lines.{Name, R, Begun, Expression, Valued, attribute_rule, expect, expect_word, expression, expression_before, is_word, is_assignment, assignment_at, condition_rule, for_head_rule}
+use Rattle.statement_parser.specs.Lines.{Name, R, Begun, Expression, Valued, expect, expect_word, expression, expression_before, is_word, is_assignment, assignment_at, condition_rule, for_head_rule}
+use Rattle.statement_parser.specs.steps.Parts.{attribute_rule}
 
 -- a condition in parentheses by itself
 abbrev pub condition : R Expr

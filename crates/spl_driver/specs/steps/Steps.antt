@@ -38,7 +38,8 @@ use Rattle.spl_driver.specs.Outcome.{RequestOutcome, NotBuilt, OfPlan, OfSize, R
 use Rattle.spl_driver.specs.Answer.{IsUnread, WholeReads, Answered, ByWords, CauseMeans, DevicesMean, DevicesShow, EachSink, HoldsText, IsRecordOf, MayBe, NoCountChanged, IsOr, RecordHolds, StoppedBy, cause_of, is_report}
 use Rattle.spl_driver.specs.Shown.{IsBadFor, IsReason, NothingRan, RanShown, RanTo, RunShown, Shown}
 use Rattle.spl_driver.specs.Files.{FilesOf}
-use Rattle.spl_driver.specs.Texts.{IsText, IsToldOutcome, run_text, wants_counts}
+use Rattle.spl_driver.specs.Texts.{IsToldOutcome, run_text, wants_counts}
+use Rattle.spl_driver.specs.steps.Telling.{IsText}
 use Rattle.spl_driver.specs.declared.answer.Answer.{Answer}
 use Rattle.spl_driver.specs.declared.compiled.Compiled.{Compiled}
 use Rattle.spl_driver.specs.declared.compiled.Compiled.TheVariants as P

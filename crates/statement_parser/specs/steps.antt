@@ -1,0 +1,3 @@
+pub mod GivesStatements
+pub mod Parts
+pub mod GivesTypes

@@ -1,0 +1,3 @@
+pub mod GivesParts
+pub mod GivesComposites
+pub mod GivesClauses
