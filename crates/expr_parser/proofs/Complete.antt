@@ -16,7 +16,8 @@ use Rattle.spl_tree.specs.Trees.{Expr, Prefix, placed}
 use Rattle.spl_tree.specs.steps.Grammar.{Is, Names, Literal, dollar, number, text, yes, no, Prefixes, no_prefixes, operator, cast, Primary, literal, name, call, group, list, empty_map, map, tuple, Elements, no_elements, elements, Items, first_item, next_item, Entries, first_entry, next_entry, Fields, first_field, next_field, Steps, no_steps, member, index, Operand, primary, select, Unary, operand, prefixed, At, unary, tighter, binary, Spells, plain, conditional}
 use Rattle.expr_parser.specs.Rules as rules
 use Rattle.expr_parser.specs.Rules.{done, stop, look, Answer, Took, RunsTo, Reads}
-use Rattle.expr_parser.specs.RuleLaws.{begins_with, line, runs_done, runs_take, runs_skip, runs_call}
+use Rattle.expr_parser.proofs.RuleLaws.{line, runs_done, runs_take, runs_skip, runs_call}
+use Rattle.expr_parser.specs.Taken.{begins_with}
 use Rattle.expr_parser.specs.Lines as lines
 use Rattle.expr_parser.specs.Lines.{Line, Value, Whole, Prefixed, Brace, rule, R, is, is_prefix, is_target, is_operator, is_literal, literal_kind, is_name, name_of, expect, primary_rule, chain_rule, climb_rule, selected}
 use Rattle.expr_parser.proofs.TestLaws.{opens, opens_kind, opens_symbol, is-opens, is_target-opens, begins-opens, symbol_binds, Stops, Stops-le, is-stops, is_operator-stops, binds_operator}

@@ -9,9 +9,9 @@ use Rattle.spl_tree.specs.Trees.{Expr}
 use Rattle.expr_parser.specs.declared.stop.Stop.{Stop}
 use Rattle.expr_parser.specs.declared.stop.Stop.TheVariants as S
 use Rattle.expr_parser.specs.Rules.{done, stop, look, call, Answer, Took, Refused, RunsTo, Reads}
-use Rattle.expr_parser.specs.RuleLaws.{begins_with, line, runs_done, runs_stop, runs_take, runs_skip, runs_call, runs_fail, runs_last}
+use Rattle.expr_parser.proofs.RuleLaws.{line, runs_done, runs_stop, runs_take, runs_skip, runs_call, runs_fail, runs_last}
+use Rattle.expr_parser.specs.Taken.{begins_with, Taken}
 use Rattle.expr_parser.specs.Lines.{Line, Value, rule, R, is, expect}
-use Rattle.expr_parser.specs.Taken.{Taken}
 use Rattle.expr_parser.specs.Gives.{Answered, Says, Gives, Passes}
 use Rattle.expr_parser.specs.steps.Parts.{Comes, Makes}
 

@@ -3,7 +3,7 @@ use Rattle.std.proofs.Common.{◌≡◌, ◌∙◌, ℕ, ◌+◌, List, [], ◌�
 use Rattle.std.proofs.lemmas.List.{append_cancel_right}
 use Rattle.spl_tree.specs.declared.token.Token.{Token}
 use Rattle.expr_parser.specs.Rules.{Rule, Answer, Took, Refused, Spent, read, Reads}
-use Rattle.expr_parser.specs.RuleLaws.{Settled, read_more, reads_one}
+use Rattle.expr_parser.proofs.RuleLaws.{Settled, read_more, reads_one}
 use Rattle.expr_parser.proofs.Locality.{rest_of, leaving, Keeps, leaves, keeps}
 use Rattle.spl_tree.specs.Fronts.{Starts, Longest, IsPhrase, IsUnexpected}
 use Rattle.expr_parser.specs.Parts.{Takes, Begins}

@@ -4,9 +4,9 @@ use Rattle.spl_tree.specs.declared.symbol.Symbol.TheVariants as K
 use Rattle.spl_tree.specs.declared.token.Token.{Token}
 use Rattle.spl_tree.specs.Trees.{Expr, Prefix}
 use Rattle.expr_parser.specs.Rules.{call, Answer, Refused, RunsTo, Reads}
-use Rattle.expr_parser.specs.RuleLaws.{begins_with, line, runs_stop, runs_take, runs_skip, runs_last}
+use Rattle.expr_parser.proofs.RuleLaws.{line, runs_stop, runs_take, runs_skip, runs_last}
+use Rattle.expr_parser.specs.Taken.{begins_with, Taken, TakenAs}
 use Rattle.expr_parser.specs.Lines.{Prefixed, Primary, Group, rule, is, is_prefix, prefix_token, is_target, cast_token, operand_rule}
-use Rattle.expr_parser.specs.Taken.{Taken, TakenAs}
 use Rattle.expr_parser.specs.declared.stop.Stop.{Stop}
 use Rattle.expr_parser.specs.declared.stop.Stop.TheVariants as S
 use Rattle.expr_parser.specs.Gives.{Passes}

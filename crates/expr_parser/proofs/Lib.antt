@@ -1,3 +1,4 @@
+pub mod RuleLaws
 pub mod Sound
 pub mod Complete
 pub mod Locality

@@ -15,10 +15,10 @@ use Rattle.spl_tree.specs.Trees.{Expr, Prefix, placed}
 use Rattle.expr_parser.specs.declared.stop.Stop.{Stop}
 use Rattle.expr_parser.specs.declared.stop.Stop.TheVariants as S
 use Rattle.expr_parser.specs.Rules.{done, stop, look, call, Answer, Took, Refused, RunsTo, Reads}
-use Rattle.expr_parser.specs.RuleLaws.{begins_with, line, runs_done, runs_stop, runs_take, runs_skip, runs_call, runs_fail, runs_last}
+use Rattle.expr_parser.proofs.RuleLaws.{line, runs_done, runs_stop, runs_take, runs_skip, runs_call, runs_fail, runs_last}
+use Rattle.expr_parser.specs.Taken.{begins_with, Taken, TakenAs}
 use Rattle.expr_parser.proofs.Locality.{reads_shrinks, taken_shrinks, taken_as_shrinks}
 use Rattle.expr_parser.specs.Lines.{Line, Whole, Rest, Climb, Chain, Prefixed, Primary, Group, Named, Elements, Items, Brace, Entries, Fields, Steps, rule, is, is_name, name_of, is_literal, literal_of, is_operator, operator_of, binary, conditional, prefixed, selected, field, expect, choice_rule, operand_rule, list_rule, field_rule}
-use Rattle.expr_parser.specs.Taken.{Taken, TakenAs}
 use Rattle.expr_parser.specs.Gives.{Answered, Gives, Passes, PassesName}
 use Rattle.expr_parser.specs.steps.Parts.{Comes, Makes, Fronts, StepFound, StepsOn}
 use Rattle.expr_parser.proofs.Derive.{gives_line, comes_fail, comes_call, comes_take, comes_skip, comes_stop, comes_pass_fail, comes_pass, comes_tail, comes_made}

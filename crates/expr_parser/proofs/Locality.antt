@@ -3,7 +3,7 @@
 use Rattle.std.proofs.Common.{◌≡◌, ◌∙◌, ℕ, zero, suc, ◌<◌, ◌≤◌, Bool, true, false, if◌then◌else◌, List, [], ◌∷◌, ◌++◌, length, refl, sym, ap, subst, arith, append_assoc, append-nil, length-append, ◌⊎◌, inl, inr}
 use Rattle.spl_tree.specs.declared.token.Token.{Token}
 use Rattle.expr_parser.specs.Rules.{Rule, done, stop, look, call, Answer, Took, Refused, Spent, Reader, and_then, run, read, RunsTo, Reads}
-use Rattle.expr_parser.specs.RuleLaws.{if_both}
+use Rattle.expr_parser.proofs.RuleLaws.{if_both}
 use Rattle.expr_parser.specs.Taken.{Taken, TakenAs}
 
 -- what is left

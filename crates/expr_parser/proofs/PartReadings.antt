@@ -9,7 +9,7 @@ use Rattle.spl_tree.specs.steps.Grammar.{Elements, Items, first_item, no_steps}
 use Rattle.expr_parser.specs.declared.stop.Stop.{Stop}
 use Rattle.expr_parser.specs.declared.stop.Stop.TheVariants as R
 use Rattle.expr_parser.specs.Rules.{Answer, Took, Refused, Spent, read, Reads}
-use Rattle.expr_parser.specs.RuleLaws.{runs_done}
+use Rattle.expr_parser.proofs.RuleLaws.{runs_done}
 use Rattle.expr_parser.specs.Lines as lines
 use Rattle.expr_parser.specs.Lines.{Line, Value, rule}
 use Rattle.expr_parser.specs.Parts.{Takes, Closed, closed, SpellsSteps, alone, selects, goes_on}

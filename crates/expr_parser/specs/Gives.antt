@@ -10,8 +10,7 @@ use Rattle.spl_tree.specs.declared.expression.Placed.{Placed}
 use Rattle.spl_tree.specs.steps.Phrases.{Phrase}
 use Rattle.spl_tree.specs.Trees.{placed}
 use Rattle.spl_tree.specs.Fronts.{IsPhrase, IsUnexpected}
-use Rattle.expr_parser.specs.RuleLaws.{begins_with}
-use Rattle.expr_parser.specs.Taken.{Taken, TakenAs}
+use Rattle.expr_parser.specs.Taken.{begins_with, Taken, TakenAs}
 use Rattle.expr_parser.specs.Parts.{Takes, Begins}
 use Rattle.expr_parser.specs.Lines.{Line, Value, rule, is, is_name, name_of}
 

@@ -1,5 +1,4 @@
 pub mod Rules
-pub mod RuleLaws
 pub mod Lines
 pub mod Taken
 pub mod Parts

@@ -1,9 +1,8 @@
 //! What the first token is.
 ghost use Rattle.std.specs.Prelude.{◌≡◌, ◌+◌, true, false, MatchOption, IfOk};
 ghost use Rattle.spl_tree.specs.Operators.{prefix_of, target_of, binary_of, binary_symbol, level};
-ghost use Rattle.expr_parser.specs.RuleLaws.{begins_with};
+ghost use Rattle.expr_parser.specs.Taken.{begins_with, Taken, TakenAs};
 ghost use Rattle.expr_parser.specs.Lines.{is, is_name, name_of, is_literal, literal_of, is_prefix, prefix_token, is_target, cast_token, is_operator, operator_of};
-ghost use Rattle.expr_parser.specs.Taken.{Taken, TakenAs};
 ghost use Rattle.expr_parser.specs.Gives.{Passes, PassesName};
 
 use crate::stop::Stop;

@@ -14,7 +14,8 @@ use Rattle.spl_tree.specs.Trees.{Expr}
 use Rattle.spl_tree.specs.steps.Grammar.{Is, Spells}
 use Rattle.spl_tree.specs.steps.Phrases.{IsKeyword, Phrase, Row, none, more, Separated, first, next}
 use Rattle.expr_parser.specs.Rules.{Rule, done, stop, look, call, Answer, Took, Refused, Spent, Reader, and_then, run, read, RunsTo, Reads}
-use Rattle.expr_parser.specs.RuleLaws.{begins_with, runs_done, runs_take, runs_skip, runs_call}
+use Rattle.expr_parser.proofs.RuleLaws.{runs_done, runs_take, runs_skip, runs_call}
+use Rattle.expr_parser.specs.Taken.{begins_with}
 use Rattle.expr_parser.specs.Lines as expressions
 use Rattle.expr_parser.specs.Lines.{is, is_name, name_kind}
 use Rattle.expr_parser.proofs.TestLaws.{is-true, Stops, symbol_binds}

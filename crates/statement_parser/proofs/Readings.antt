@@ -13,8 +13,8 @@ use Rattle.expr_parser.specs.Gives.{Answers, Passes, PassesName}
 use Rattle.expr_parser.specs.Lines as expressions
 use Rattle.expr_parser.specs.Lines.{is, is_name}
 use Rattle.expr_parser.specs.Rules.{done, stop, look, call, Answer, Took, Refused, RunsTo, Reads}
-use Rattle.expr_parser.specs.RuleLaws.{begins_with, line, runs_done, runs_stop, runs_take, runs_skip, runs_call, runs_fail}
-use Rattle.expr_parser.specs.Taken.{Taken, TakenAs}
+use Rattle.expr_parser.proofs.RuleLaws.{line, runs_done, runs_stop, runs_take, runs_skip, runs_call, runs_fail}
+use Rattle.expr_parser.specs.Taken.{begins_with, Taken, TakenAs}
 use Rattle.statement_parser.proofs.CompleteParts.{embedded}
 use Rattle.statement_parser.specs.Gives.{Answered, Says, Comes, Gives, PassesWord, PassesDollar}
 use Rattle.statement_parser.specs.Lines.{Line, Value, Expression, Name, rule, R, expect, expect_word, expect_name, is_word, is_dollar, dollar_at, name_at}

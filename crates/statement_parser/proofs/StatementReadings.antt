@@ -7,9 +7,9 @@ use Rattle.spl_tree.specs.declared.token.Token.{Token}
 use Rattle.expr_parser.specs.declared.stop.Stop.{Stop}
 use Rattle.expr_parser.specs.declared.stop.Stop.TheVariants as S
 use Rattle.expr_parser.specs.Rules.{done, stop, look, call, Answer, Took, Refused, Spent, and_then, run, read, RunsTo, Reads}
-use Rattle.expr_parser.specs.RuleLaws.{run_more, begins_with, runs_take, runs_skip}
+use Rattle.expr_parser.proofs.RuleLaws.{run_more, runs_take, runs_skip}
+use Rattle.expr_parser.specs.Taken.{begins_with, Taken}
 use Rattle.expr_parser.proofs.Locality.{rest_of, run_shrinks}
-use Rattle.expr_parser.specs.Taken.{Taken}
 use Rattle.statement_parser.specs.Gives.{Comes}
 use Rattle.statement_parser.specs.Lines as lines
 use Rattle.statement_parser.specs.Lines.{Line, Value, TypeExpression, Statement, Other, Arms, rule, R, is_word}

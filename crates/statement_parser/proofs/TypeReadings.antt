@@ -13,7 +13,7 @@ use Rattle.statement_parser.proofs.StatementReadings.{part_read}
 use Rattle.statement_parser.specs.Gives.{Answered, Comes, Gives}
 use Rattle.statement_parser.specs.Lines.{Line, Value, Name, Attributes, MoreAttributes, rule, R}
 use Rattle.statement_parser.specs.steps.Parts.{attribute_rule}
-use Rattle.expr_parser.specs.RuleLaws.{runs_last}
+use Rattle.expr_parser.proofs.RuleLaws.{runs_last}
 
 -- a line whose rule goes on with the rule r at mid gives the result of r there
 pub goes : (x : Line) (ts mid : List Token) (r : R (Value x)) (res : Answered (Value x)) → ((o : Answer (Value x)) → RunsTo rule r mid o → Reads rule x ts o)

@@ -6,9 +6,8 @@ use Rattle.spl_tree.specs.declared.keyword.Keyword.{Keyword}
 use Rattle.spl_tree.specs.declared.token.Token.{Token}
 use Rattle.expr_parser.specs.declared.stop.Stop.{Stop}
 use Rattle.expr_parser.specs.declared.stop.Stop.TheVariants as S
-use Rattle.expr_parser.specs.RuleLaws.{begins_with}
+use Rattle.expr_parser.specs.Taken.{begins_with, Taken, TakenAs}
 use Rattle.expr_parser.specs.Rules.{Answer, Took, Refused, RunsTo, Reads}
-use Rattle.expr_parser.specs.Taken.{Taken, TakenAs}
 use Rattle.statement_parser.specs.Lines.{Line, Value, rule, R, is_word, is_dollar, dollar_at}
 
 -- a value and the tokens after it, or where reading stops

@@ -1,7 +1,6 @@
 //! What the first token is.
 ghost use Rattle.std.specs.Prelude.{◌≡◌, false, MatchOption, IfOk};
-ghost use Rattle.expr_parser.specs.RuleLaws.{begins_with};
-ghost use Rattle.expr_parser.specs.Taken.{Taken, TakenAs};
+ghost use Rattle.expr_parser.specs.Taken.{begins_with, Taken, TakenAs};
 ghost use Rattle.spl_tree.specs.Operators.{assignment_of, assignment_symbol};
 ghost use Rattle.statement_parser.specs.Gives.{PassesWord, PassesDollar};
 ghost use Rattle.statement_parser.specs.steps.GivesTypes.{TypeFirst};

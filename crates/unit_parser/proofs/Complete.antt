@@ -15,7 +15,8 @@ use Rattle.spl_tree.specs.steps.TypeGrammar.{SpellsFunctionParameters}
 use Rattle.spl_tree.specs.steps.StatementGrammar.{SpellsBlock}
 use Rattle.spl_tree.specs.steps.UnitGrammar.{SpellsName, name, SpellsPublic, not_public, public, SpellsComposite, composite, SpellsResultType, void, a_type, SpellsFunction, function, SpellsDefinition, a_typedef, a_function, a_composite, SpellsNamespace, no_namespace, namespace, SpellsUnit, unit}
 use Rattle.expr_parser.specs.Rules.{done, look, call, Took, RunsTo, Reads}
-use Rattle.expr_parser.specs.RuleLaws.{begins_with, line, runs_done, runs_call}
+use Rattle.expr_parser.proofs.RuleLaws.{line, runs_done, runs_call}
+use Rattle.expr_parser.specs.Taken.{begins_with}
 use Rattle.expr_parser.specs.Lines.{is}
 use Rattle.statement_parser.specs.Lines.{rule, R, Name, is_word, expect, FunctionOf, Definitions, Namespace, Whole}
 use Rattle.statement_parser.proofs.CompleteParts.{no_word, takes, skips, expects, expects_word, only, row, row_front}

@@ -14,7 +14,8 @@ use Rattle.spl_tree.specs.steps.Grammar.{Is, Names}
 use Rattle.spl_tree.specs.steps.Phrases.{Row, Separated}
 use Rattle.spl_tree.specs.steps.UnitGrammar.{Clause, SpellsTypeDefinition, type_definition, SpellsParameter, stream, SpellsInvocation, SpellsHeadPort, untyped, typed, ports, SpellsPortLists, outputs_alone, inputs_alone, outputs_first, inputs_first, SpellsHeadPorts, no_ports, in_parentheses, SpellsDefault, no_default, default, SpellsCompositeParameter, composite_parameter}
 use Rattle.expr_parser.specs.Rules.{done, look, call, Took, RunsTo, Reads}
-use Rattle.expr_parser.specs.RuleLaws.{begins_with, line, runs_done, runs_call}
+use Rattle.expr_parser.proofs.RuleLaws.{line, runs_done, runs_call}
+use Rattle.expr_parser.specs.Taken.{begins_with}
 use Rattle.expr_parser.specs.Lines.{is, is_name}
 use Rattle.statement_parser.specs.Lines.{rule, R, Name, is_word, expect, expect_word, HeadPorts, Ports, Port, CompositeParameterClause, CompositeParameters, Default, parameter_with, TypeClause, ParameterClause, Types, GraphClause, CompositeOf, TypeOf}
 use Rattle.statement_parser.proofs.CompleteParts.{Heads, no_word, no_symbol, no_name, takes, skips, expects, expects_word, only, expression_reads, row, separated}

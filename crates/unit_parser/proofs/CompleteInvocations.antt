@@ -13,7 +13,8 @@ use Rattle.spl_tree.specs.steps.Phrases.{IsKeyword, Phrase, Row, Separated, firs
 use Rattle.spl_tree.specs.steps.StatementGrammar.{BeginsAt, begins}
 use Rattle.spl_tree.specs.steps.UnitGrammar.{SpellsName, name, SpellsAlias, no_alias, alias, stream, SpellsOutputStream, output, SpellsHead, one_stream, streams, no_stream, SpellsInput, input, SpellsInvocation, invocation}
 use Rattle.expr_parser.specs.Rules.{done, look, call, Took, RunsTo, Reads}
-use Rattle.expr_parser.specs.RuleLaws.{begins_with, line, runs_done, runs_call}
+use Rattle.expr_parser.proofs.RuleLaws.{line, runs_done, runs_call}
+use Rattle.expr_parser.specs.Taken.{begins_with}
 use Rattle.expr_parser.specs.Lines.{is, name_kind}
 use Rattle.statement_parser.specs.Lines.{rule, Name, is_word, word_kind, expect, Alias, Stream, Streams, StreamHead, ListHead, Invoked, Inputs, MoreInputs, InputStreams, Graph}
 use Rattle.statement_parser.proofs.CompleteParts.{Heads, no_symbol, takes, skips, expects, expects_word, only, row, separated}

@@ -19,7 +19,8 @@ use Rattle.spl_tree.specs.steps.Grammar.{Is, Names, Spells, Steps, no_steps, mem
 use Rattle.spl_tree.specs.steps.TypeGrammar.{SpellsType, boolean, rstring, int, left_out, name, list, map, tuple}
 use Rattle.spl_tree.specs.steps.StatementGrammar.{SpellsPlace, variable, taken, SpellsCall, call, SpellsValue, no_value, value, SpellsMutable, constant, mutable, SpellsDeclaration, declaration, SpellsReturned, no_result, result, BeginsAt, begins, SpellsStmt, block, declare, assign, call_alone, if_alone, if_else, while, for, break, continue, return, submit, SpellsArms, first_arm, next_arm, SpellsStmts, no_statements, more_statements, SpellsBlock, block_of}
 use Rattle.expr_parser.specs.Rules.{done, look, Took, RunsTo, Reads}
-use Rattle.expr_parser.specs.RuleLaws.{begins_with, line, runs_done, runs_call}
+use Rattle.expr_parser.proofs.RuleLaws.{line, runs_done, runs_call}
+use Rattle.expr_parser.specs.Taken.{begins_with}
 use Rattle.expr_parser.specs.Lines as expressions
 use Rattle.expr_parser.specs.Lines.{is, is_name, name_kind}
 use Rattle.expr_parser.proofs.TestLaws.{Stops, binds, opens_kind}

@@ -11,9 +11,9 @@ use Rattle.expr_parser.specs.declared.stop.Stop.{Stop}
 use Rattle.expr_parser.specs.declared.stop.Stop.TheVariants as E
 use Rattle.expr_parser.specs.Lines.{is_name}
 use Rattle.expr_parser.proofs.Locality.{rest_of, run_shrinks}
-use Rattle.expr_parser.specs.RuleLaws.{begins_with, line, Settled, runs_last}
+use Rattle.expr_parser.proofs.RuleLaws.{line, Settled, runs_last}
+use Rattle.expr_parser.specs.Taken.{begins_with, Taken}
 use Rattle.expr_parser.specs.Rules.{done, look, call, Answer, Took, Refused, Spent, run, read, RunsTo, Reads}
-use Rattle.expr_parser.specs.Taken.{Taken}
 use Rattle.statement_parser.proofs.StatementReadings.{behind, part_read}
 use Rattle.statement_parser.specs.Gives.{Comes, Gives}
 use Rattle.statement_parser.specs.Lines.{Line, Value, Name, rule, R, expect, expect_name, name_at, HeadPorts, CompositeParameterClause, TypeClause, GraphClause, ParameterClause, TypeOf, Types, Shaped}

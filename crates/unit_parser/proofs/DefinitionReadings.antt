@@ -18,7 +18,8 @@ use Rattle.expr_parser.specs.declared.stop.Stop.{Stop}
 use Rattle.expr_parser.specs.declared.stop.Stop.TheVariants as S
 use Rattle.expr_parser.specs.Gives.{Passes}
 use Rattle.expr_parser.specs.Lines.{is}
-use Rattle.expr_parser.specs.RuleLaws.{line, begins_with}
+use Rattle.expr_parser.proofs.RuleLaws.{line}
+use Rattle.expr_parser.specs.Taken.{begins_with}
 use Rattle.expr_parser.specs.Rules.{done, stop, look, call, Answer, Took, Refused, RunsTo, Reads}
 use Rattle.unit_parser.proofs.CompositeReadings.{by_rule, composite_named, name_takes}
 use Rattle.statement_parser.proofs.Readings.{finished, skipped, passed, says_on, pass_fails}

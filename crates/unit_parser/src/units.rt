@@ -1,6 +1,6 @@
 //! Units, and what they define.
 ghost use Rattle.std.specs.Prelude.{◌≡◌, []};
-ghost use Rattle.expr_parser.specs.RuleLaws.{begins_with};
+ghost use Rattle.expr_parser.specs.Taken.{begins_with};
 ghost use Rattle.statement_parser.specs.Gives.{Comes, Gives};
 ghost use Rattle.unit_parser.specs.steps.GivesComposites.{Defines, DefinesOn, PassesNames, begins_type, composite_behind, function_behind, is_type_front, word_begins_type};
 ghost use Rattle.unit_parser.specs.steps.GivesParts.{signature};

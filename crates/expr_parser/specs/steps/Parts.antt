@@ -8,7 +8,7 @@ use Rattle.expr_parser.specs.Rules.{call, Answer, Refused, RunsTo, Reads}
 use Rattle.spl_tree.specs.declared.expression.Step.{Step}
 use Rattle.spl_tree.specs.declared.symbol.Symbol.TheVariants as K
 use Rattle.spl_tree.specs.Trees.{Expr, Prefix}
-use Rattle.expr_parser.specs.RuleLaws.{begins_with}
+use Rattle.expr_parser.specs.Taken.{begins_with}
 use Rattle.expr_parser.specs.Lines.{Prefixed, Primary, Group, Steps, rule, R, is, operand_rule}
 use Rattle.expr_parser.specs.Gives.{Answered, Says}
 

@@ -12,9 +12,8 @@ use Rattle.spl_tree.specs.declared.token.Token.{Token}
 use Rattle.spl_tree.specs.Trees.{Expr, placed, Stmt, TypeExpr}
 use Rattle.expr_parser.specs.Lines as expressions
 use Rattle.expr_parser.specs.Lines.{is, is_name, name_of}
-use Rattle.expr_parser.specs.RuleLaws.{begins_with}
+use Rattle.expr_parser.specs.Taken.{begins_with, Taken}
 use Rattle.expr_parser.specs.Rules.{done, stop, look, call}
-use Rattle.expr_parser.specs.Taken.{Taken}
 use Rattle.statement_parser.specs.Lines as lines
 use Rattle.statement_parser.specs.Lines.{Name, R, Begun, Expression, Valued, expect, expect_word, expression, expression_before, is_word, is_assignment, assignment_at, condition_rule, for_head_rule}
 use Rattle.statement_parser.specs.steps.Parts.{attribute_rule}

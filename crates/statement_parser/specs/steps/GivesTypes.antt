@@ -4,8 +4,7 @@ use Rattle.std.specs.Borrow.{Bor}
 use Rattle.spl_tree.specs.declared.token.Token.{Token}
 use Rattle.expr_parser.specs.declared.stop.Stop.{Stop}
 use Rattle.expr_parser.specs.declared.stop.Stop.TheVariants as S
-use Rattle.expr_parser.specs.RuleLaws.{begins_with}
-use Rattle.expr_parser.specs.Taken.{TakenAs}
+use Rattle.expr_parser.specs.Taken.{begins_with, TakenAs}
 use Rattle.spl_tree.specs.Trees.{TypeExpr}
 use Rattle.statement_parser.specs.Lines.{is_type, type_of}
 

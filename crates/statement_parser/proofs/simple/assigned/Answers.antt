@@ -1,7 +1,7 @@
 use Rattle.std.proofs.Common.{ℕ, [], Option}
 use Rattle.expr_parser.specs.Lines as expressions
 use Rattle.expr_parser.specs.Rules.{done, stop, look}
-use Rattle.expr_parser.specs.RuleLaws.{runs_stop}
+use Rattle.expr_parser.proofs.RuleLaws.{runs_stop}
 use Rattle.spl_tree.specs.declared.expression.BinaryOperator.{BinaryOperator}
 use Rattle.spl_tree.specs.declared.expression.ExprKind.TheVariants as X
 use Rattle.spl_tree.specs.declared.statement.StmtKind.TheVariants as Z

@@ -11,7 +11,7 @@ use Rattle.statement_parser.proofs.Readings.{finished, reads, taken, skipped, li
 use Rattle.statement_parser.proofs.StatementReadings.{part_read, part_fails, statement_shrinks, arms_none, arms_else}
 use Rattle.statement_parser.proofs.statements.+statements.Goals as goal
 use Rattle.expr_parser.proofs.Locality.{reads_shrinks, runs_shrinks, taken_shrinks}
-use Rattle.expr_parser.specs.RuleLaws.{runs_last}
+use Rattle.expr_parser.proofs.RuleLaws.{runs_last}
 
 -- ---- statements in a row
 

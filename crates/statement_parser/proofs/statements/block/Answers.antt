@@ -5,7 +5,7 @@ use Rattle.statement_parser.specs.Lines as lines
 use Rattle.statement_parser.specs.Lines.{rule}
 use Rattle.statement_parser.proofs.Readings.{reads, passed, says_on, fails, pass_fails}
 use Rattle.statement_parser.proofs.statements.block.Goals as goal
-use Rattle.expr_parser.specs.RuleLaws.{runs_last}
+use Rattle.expr_parser.proofs.RuleLaws.{runs_last}
 
 pub returns-in_err-behind : goal.returns-in_err-behind
 unfolding lines.rule

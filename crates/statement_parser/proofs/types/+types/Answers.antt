@@ -3,7 +3,7 @@ use Rattle.spl_tree.specs.declared.shape.TypeKind.TheVariants as Y
 use Rattle.spl_tree.specs.declared.symbol.Symbol.TheVariants as S
 use Rattle.spl_tree.specs.Trees.{placed, TypeExpr}
 use Rattle.expr_parser.specs.Rules.{done, call, RunsTo, Reads}
-use Rattle.expr_parser.specs.RuleLaws.{runs_stop}
+use Rattle.expr_parser.proofs.RuleLaws.{runs_stop}
 use Rattle.statement_parser.proofs.Readings.{finished, reads, taken, taken_as, skipped, passed, line_read, says_on, rule_on, fails, rule_fails, pass_fails, line_fails}
 use Rattle.statement_parser.proofs.Sequences.{pushed, pushed_fails}
 use Rattle.statement_parser.proofs.StatementReadings.{behind, part_read, part_fails}

@@ -4,7 +4,7 @@ use Rattle.spl_tree.specs.declared.symbol.Symbol.{Symbol}
 use Rattle.spl_tree.specs.declared.shape.ShapeKind.TheVariants as H
 use Rattle.spl_tree.specs.Trees.{placed, TypeExpr, Shape}
 use Rattle.expr_parser.specs.Lines.{is_name}
-use Rattle.expr_parser.specs.RuleLaws.{begins_with}
+use Rattle.expr_parser.specs.Taken.{begins_with}
 use Rattle.expr_parser.specs.Rules.{done, call}
 use Rattle.statement_parser.proofs.Readings.{reads, taken_as, skipped, line_read, fails, line_fails}
 use Rattle.statement_parser.proofs.TypeReadings.{goes, attribute}

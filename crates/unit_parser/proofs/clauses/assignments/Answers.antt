@@ -13,7 +13,7 @@ use Rattle.statement_parser.proofs.StatementReadings.{part_read, part_fails}
 use Rattle.statement_parser.proofs.TypeReadings.{goes}
 use Rattle.unit_parser.proofs.clauses.assignments.Goals as goal
 use Rattle.expr_parser.proofs.Locality.{runs_shrinks, taken_shrinks}
-use Rattle.expr_parser.specs.RuleLaws.{runs_last}
+use Rattle.expr_parser.proofs.RuleLaws.{runs_last}
 
 -- the rule after one more of them
 abbrev more : List (Field Expr) → (Field Expr) → R (List (Field Expr))

@@ -8,7 +8,7 @@ use Rattle.statement_parser.proofs.Readings.{line_read, fails, line_fails}
 use Rattle.statement_parser.proofs.Sequences.{pushed, pushed_fails}
 use Rattle.unit_parser.proofs.clauses.handlers.Goals as goal
 use Rattle.expr_parser.proofs.Locality.{reads_shrinks}
-use Rattle.expr_parser.specs.RuleLaws.{runs_last}
+use Rattle.expr_parser.proofs.RuleLaws.{runs_last}
 
 -- the rule after one more handler
 abbrev more : List (Placed Handler) → Placed Handler → R (List (Placed Handler))

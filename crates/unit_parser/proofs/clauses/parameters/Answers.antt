@@ -11,7 +11,7 @@ use Rattle.statement_parser.proofs.Sequences.{pushed, pushed_fails}
 use Rattle.statement_parser.proofs.StatementReadings.{behind, part_read, part_fails}
 use Rattle.unit_parser.proofs.CompositeReadings.{name_takes, passing, taken_begins}
 use Rattle.unit_parser.proofs.clauses.parameters.Goals as goal
-use Rattle.expr_parser.specs.RuleLaws.{runs_last}
+use Rattle.expr_parser.proofs.RuleLaws.{runs_last}
 
 -- the rule after the name of one more of them, and after it
 abbrev named : Name → R Parameter

@@ -7,7 +7,7 @@ use Rattle.statement_parser.proofs.StatementReadings.{part_read, part_fails}
 use Rattle.unit_parser.specs.steps.GivesParts.{composite_parameter}
 use Rattle.statement_parser.specs.Lines.{Name, R, Default, is_dollar, dollar_at, rule, type_between}
 use Rattle.unit_parser.proofs.composites.composite_parameter.Goals as goal
-use Rattle.expr_parser.specs.RuleLaws.{runs_last}
+use Rattle.expr_parser.proofs.RuleLaws.{runs_last}
 
 -- the rule after the name, and after the type
 abbrev named : TypeExpr → Name → R CompositeParameter

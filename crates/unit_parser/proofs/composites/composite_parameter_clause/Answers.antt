@@ -3,7 +3,7 @@ use Rattle.expr_parser.specs.Rules.{Took, Reads}
 use Rattle.statement_parser.proofs.Readings.{finished, reads, taken, skipped, says_on}
 use Rattle.statement_parser.specs.Lines as lines
 use Rattle.unit_parser.proofs.composites.composite_parameter_clause.Goals as goal
-use Rattle.expr_parser.specs.RuleLaws.{runs_last}
+use Rattle.expr_parser.proofs.RuleLaws.{runs_last}
 
 pub returns-in-Some : goal.returns-in-Some
 unfolding lines.rule

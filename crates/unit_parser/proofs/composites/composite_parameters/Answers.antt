@@ -9,7 +9,7 @@ use Rattle.statement_parser.specs.Lines as lines
 use Rattle.statement_parser.specs.Lines.{R}
 use Rattle.unit_parser.proofs.composites.composite_parameters.Goals as goal
 use Rattle.expr_parser.proofs.Locality.{runs_shrinks, taken_shrinks}
-use Rattle.expr_parser.specs.RuleLaws.{runs_last}
+use Rattle.expr_parser.proofs.RuleLaws.{runs_last}
 
 -- the rule after one more parameter
 abbrev more : List CompositeParameter → CompositeParameter → R (List CompositeParameter)

@@ -10,7 +10,7 @@ use Rattle.statement_parser.specs.Lines.{R}
 use Rattle.unit_parser.proofs.Rows.{made}
 use Rattle.unit_parser.proofs.composites.ports.Goals as goal
 use Rattle.expr_parser.proofs.Locality.{reads_shrinks, taken_shrinks}
-use Rattle.expr_parser.specs.RuleLaws.{runs_last}
+use Rattle.expr_parser.proofs.RuleLaws.{runs_last}
 
 -- the rule after one more port
 abbrev more : List HeadPort → HeadPort → R (List HeadPort)

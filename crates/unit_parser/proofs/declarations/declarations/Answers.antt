@@ -5,7 +5,7 @@ use Rattle.statement_parser.proofs.Sequences.{pushed, pushed_fails}
 use Rattle.unit_parser.proofs.DeclarationReadings.{declaration_shrinks}
 use Rattle.statement_parser.specs.Lines.{Declare, Declarations, rule}
 use Rattle.unit_parser.proofs.declarations.declarations.Goals as goal
-use Rattle.expr_parser.specs.RuleLaws.{runs_last}
+use Rattle.expr_parser.proofs.RuleLaws.{runs_last}
 
 pub returns-in-Some : goal.returns-in-Some
 unfolding rule

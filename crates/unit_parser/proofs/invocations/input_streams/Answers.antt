@@ -10,7 +10,7 @@ use Rattle.statement_parser.proofs.StatementReadings.{part_read, part_fails}
 use Rattle.unit_parser.proofs.Rows.{made}
 use Rattle.unit_parser.proofs.invocations.input_streams.Goals as goal
 use Rattle.expr_parser.proofs.Locality.{runs_shrinks, taken_shrinks}
-use Rattle.expr_parser.specs.RuleLaws.{runs_last}
+use Rattle.expr_parser.proofs.RuleLaws.{runs_last}
 
 -- a name, and what follows the name of one more stream
 abbrev a_name : R Name

@@ -14,7 +14,7 @@ use Rattle.statement_parser.proofs.Readings.{finished, reads, taken, skipped, li
 use Rattle.unit_parser.proofs.invocations.invocation.Goals as goal
 use Rattle.expr_parser.proofs.Locality.{reads_shrinks, taken_shrinks}
 use Rattle.expr_parser.proofs.Derive.{exit}
-use Rattle.expr_parser.specs.RuleLaws.{runs_last}
+use Rattle.expr_parser.proofs.RuleLaws.{runs_last}
 
 -- after the head of one more invocation at a place, after others
 abbrev head_behind : ℕ → List Invocation → List OutputStream × Option Name → R (List Invocation)

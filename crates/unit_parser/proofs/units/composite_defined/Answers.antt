@@ -3,7 +3,7 @@ use Rattle.statement_parser.specs.Lines as lines
 use Rattle.unit_parser.specs.steps.GivesComposites.{composite_behind}
 use Rattle.unit_parser.proofs.DefinitionReadings.{composite_shrinks, defines_none}
 use Rattle.unit_parser.proofs.units.composite_defined.Goals as goal
-use Rattle.expr_parser.specs.RuleLaws.{runs_last}
+use Rattle.expr_parser.proofs.RuleLaws.{runs_last}
 
 pub returns-in_err-one : goal.returns-in_err-one
 returns-in_err-one c =

@@ -8,7 +8,7 @@ use Rattle.statement_parser.specs.Lines as lines
 use Rattle.unit_parser.proofs.units.definition.Goals as goal
 use Rattle.expr_parser.proofs.Locality.{reads_shrinks, taken_shrinks}
 use Rattle.statement_parser.proofs.StatementReadings.{behind, part_fails}
-use Rattle.expr_parser.specs.RuleLaws.{runs_last}
+use Rattle.expr_parser.proofs.RuleLaws.{runs_last}
 
 pub returns-in_err-one : goal.returns-in_err-one
 unfolding lines.rule

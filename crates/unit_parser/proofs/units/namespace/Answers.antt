@@ -2,7 +2,7 @@ use Rattle.statement_parser.proofs.Readings.{reads, taken, skipped, name_passed,
 use Rattle.unit_parser.proofs.DefinitionReadings.{namespace_named, names_fail, names_end}
 use Rattle.statement_parser.specs.Lines as lines
 use Rattle.unit_parser.proofs.units.namespace.Goals as goal
-use Rattle.expr_parser.specs.RuleLaws.{runs_last}
+use Rattle.expr_parser.proofs.RuleLaws.{runs_last}
 
 pub returns-in_err-behind : goal.returns-in_err-behind
 unfolding lines.rule

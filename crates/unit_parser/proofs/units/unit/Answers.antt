@@ -8,7 +8,7 @@ use Rattle.unit_parser.proofs.DefinitionReadings.{names_stopped}
 use Rattle.statement_parser.specs.Lines as lines
 use Rattle.statement_parser.specs.Lines.{rule, is_word}
 use Rattle.unit_parser.proofs.units.unit.Goals as goal
-use Rattle.expr_parser.specs.RuleLaws.{runs_last}
+use Rattle.expr_parser.proofs.RuleLaws.{runs_last}
 
 unit_read : {ts : List Token} {o : Answer (List Definition)}
     → RunsTo rule (look (is_word K.Namespace) (λ _. call lines.Namespace (λ _. call (lines.Definitions []) done)) (call (lines.Definitions []) done)) ts o → Reads rule lines.Whole ts o

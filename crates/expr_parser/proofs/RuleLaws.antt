@@ -2,11 +2,7 @@
 use Rattle.std.proofs.Common.{◌≡◌, ◌∙◌, ℕ, zero, suc, ◌+◌, ◌≤◌, Bool, true, false, if◌then◌else◌, List, [], ◌∷◌, refl, sym, subst, arith}
 use Rattle.spl_tree.specs.declared.token.Token.{Token}
 use Rattle.expr_parser.specs.Rules.{Rule, done, stop, look, call, Answer, Took, Refused, Spent, Reader, and_then, run, read, RunsTo, Reads}
-
--- whether the tokens begin with one that passes
-abbrev pub begins_with : (Token → Bool) → List Token → Bool
-begins_with p [] = false
-begins_with p (t ∷ ts) = p t
+use Rattle.expr_parser.specs.Taken.{begins_with}
 
 -- reading went deep enough to give a value or a refusal
 abbrev pub Settled : {A : Type 0} → Answer A → Type 0
