@@ -2,12 +2,12 @@
 #![tactic(auto)]
 
 mod calls;
+mod faultless;
 mod lists;
 mod memory;
 mod memory_shelf;
-mod plain;
 
 pub use calls::Calls;
+pub use faultless::{PlainFeed, PlainPour, PlainShelf};
 pub use memory::{MemoryFeed, MemoryPour};
 pub use memory_shelf::MemoryShelf;
-pub use plain::{PlainFeed, PlainPour, PlainShelf};

@@ -8,7 +8,7 @@ ghost use Rattle.memory_files.specs.Memory.{FirstToFail, IsBehindEnd, cut_before
 ghost use Rattle.memory_files.specs.Plain.{plain_script};
 
 use crate::calls::Calls;
-use crate::plain::place;
+use crate::faultless::place;
 use feed_pour::{Failed, Feed, Pour, PourAnswer};
 use spl_value::{Bytes, Items};
 use std::alloc::Global;

@@ -5,8 +5,8 @@ mod columns;
 mod find;
 mod lines;
 mod marked;
-mod plain;
 mod rows;
+mod unmarked;
 mod whole;
 
 pub use rows::Rows;

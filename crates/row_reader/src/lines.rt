@@ -7,7 +7,7 @@ ghost use Rattle.row_reader.specs.steps.Marked.{given_of};
 
 use crate::columns::{Column, Spare};
 use crate::marked::{LineGives, read_marked};
-use crate::plain::read_plain;
+use crate::unmarked::read_plain;
 use spl_value::{NoMemory, Values};
 
 /// What a line gives.

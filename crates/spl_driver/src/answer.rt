@@ -37,7 +37,7 @@ pub struct Answer {
 }
 
 /// The answer of a cause that names no operator, where nothing was counted.
-pub fn plain(alloc: Global, cause: Cause) -> Answer
+pub fn plain_answer(alloc: Global, cause: Cause) -> Answer
     ensures cause { result.ended.cause ≡ cause }
     ensures text { IfOk result.text (λ text. text ≡ status_text None cause) }
     ensures ran { NothingRan result.ended }
@@ -100,10 +100,10 @@ fn replay<H: Shelf>(alloc: Global, shelf: &mut H, accepted: &Checked, file: &Nam
     format_law();
     kept(accepted);
     match read_record(alloc, shelf, accepted, file) {
-        RecordRead::OpenFailed => plain(alloc, open_failed(alloc, file.as_slice())),
-        RecordRead::ReadFailed => plain(alloc, read_failed(alloc, file.as_slice())),
+        RecordRead::OpenFailed => plain_answer(alloc, open_failed(alloc, file.as_slice())),
+        RecordRead::ReadFailed => plain_answer(alloc, read_failed(alloc, file.as_slice())),
         RecordRead::Bad => bad_arrivals(alloc, accepted, None),
-        RecordRead::Memory => plain(alloc, Cause::NoMemory),
+        RecordRead::Memory => plain_answer(alloc, Cause::NoMemory),
         RecordRead::Order(order) => run(alloc, shelf, accepted, &order, &None, false),
     }
 }
@@ -151,7 +151,7 @@ fn answer_accepted<H: Shelf>(
             )
         }
         Request::Replay { arrivals, .. } => replay(alloc, shelf, accepted, arrivals),
-        _ => plain(alloc, Cause::NotBuilt),
+        _ => plain_answer(alloc, Cause::NotBuilt),
     }
 }
 
@@ -172,10 +172,10 @@ fn answer_file<H: Shelf>(
     accepted_law();
     outcome_law();
     match compile_file(alloc, shelf, program, names) {
-        Compiled::Refused(refusal) => plain(alloc, Cause::Refused(refusal)),
-        Compiled::OpenFailed => plain(alloc, open_failed(alloc, program.as_slice())),
-        Compiled::ReadFailed => plain(alloc, read_failed(alloc, program.as_slice())),
-        Compiled::Memory => plain(alloc, Cause::NoMemory),
+        Compiled::Refused(refusal) => plain_answer(alloc, Cause::Refused(refusal)),
+        Compiled::OpenFailed => plain_answer(alloc, open_failed(alloc, program.as_slice())),
+        Compiled::ReadFailed => plain_answer(alloc, read_failed(alloc, program.as_slice())),
+        Compiled::Memory => plain_answer(alloc, Cause::NoMemory),
         Compiled::Checked(accepted) => answer_accepted(alloc, shelf, request, &accepted),
     }
 }
@@ -194,6 +194,6 @@ pub fn answer_program<H: Shelf>(
 {
     match file_names(alloc, request) {
         Ok(names) => answer_file(alloc, shelf, request, program, &names),
-        Err(_) => plain(alloc, Cause::NoMemory),
+        Err(_) => plain_answer(alloc, Cause::NoMemory),
     }
 }

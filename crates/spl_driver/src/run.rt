@@ -9,7 +9,7 @@ ghost use Rattle.spl_driver.specs.steps.Telling.{IsText};
 ghost use Rattle.spl_driver.specs.steps.Steps.{CountsShow, EndsAs, EndsRun, FilesShow, FollowsOrder, IsNamedBy, IsOrderOf, IsRunOf, MayEndIn, RanGraph, ReasonOf, RecordOf, RunComes, TellsRun, counts_from, run_files};
 ghost use Rattle.run_report.specs.Texts.{status_text};
 
-use crate::answer::{Answer, bad_arrivals, plain};
+use crate::answer::{Answer, bad_arrivals, plain_answer};
 use crate::ended::{Ended, open_failed, status, uncounted_after, write_failed};
 use crate::prepare::{Prepared, kept, prepare};
 use crate::sinks::{RunFiles, files_of_run, name_at, sink_counts};
@@ -113,7 +113,7 @@ fn ended_run(
         arrivals result }
 {
     match sunk {
-        Sunk::NotCreated(place) => plain(alloc, open_failed(alloc, name_at(files, *place))),
+        Sunk::NotCreated(place) => plain_answer(alloc, open_failed(alloc, name_at(files, *place))),
         Sunk::NotWritten(place) => {
             unfinished(alloc, write_failed(alloc, name_at(files, *place)), arrivals)
         }
@@ -153,11 +153,11 @@ pub fn run<H: Shelf>(
     engine_law();
     kept(checked);
     match prepare(alloc, shelf, checked, order) {
-        Prepared::OpenFailed(name) => plain(alloc, Cause::OpenFailed(name)),
+        Prepared::OpenFailed(name) => plain_answer(alloc, Cause::OpenFailed(name)),
         Prepared::NotWhole(op) => bad_arrivals(alloc, checked, Some(op)),
-        Prepared::Memory => plain(alloc, Cause::NoMemory),
+        Prepared::Memory => plain_answer(alloc, Cause::NoMemory),
         Prepared::Ran(run) => match files_of_run(alloc, checked, written, &run.arrivals) {
-            Err(_) => plain(alloc, Cause::NoMemory),
+            Err(_) => plain_answer(alloc, Cause::NoMemory),
             Ok(files) => {
                 let Run {
                     sinks: streams,

@@ -10,7 +10,7 @@ ghost use Rattle.spl_driver.specs.Texts.{IsToldOutcome, Said};
 ghost use Rattle.spl_driver.specs.steps.Telling.{ToldAs, PoursText};
 ghost use Rattle.spl_driver.specs.steps.Steps.{AnswersRequest};
 
-use crate::answer::{Answer, answer_program, plain};
+use crate::answer::{Answer, answer_program, plain_answer};
 use crate::built::is_plain;
 use crate::ended::{Ended, status};
 use crate::laws::outcome_law;
@@ -35,10 +35,10 @@ fn answer_request<H: Shelf>(alloc: Global, shelf: &mut H, request: &Request) -> 
             if is_plain(options) {
                 answer_program(alloc, shelf, request, program)
             } else {
-                plain(alloc, Cause::NotBuilt)
+                plain_answer(alloc, Cause::NotBuilt)
             }
         }
-        Request::Simulate { .. } | Request::Make { .. } => plain(alloc, Cause::NotBuilt),
+        Request::Simulate { .. } | Request::Make { .. } => plain_answer(alloc, Cause::NotBuilt),
     }
 }
 
@@ -48,8 +48,8 @@ fn answer_words<H: Shelf>(alloc: Global, words: &[String], shelf: &mut H) -> Ans
         (H.counts shelf.old) (H.counts shelf.new) (H.lent shelf.old) (H.lent shelf.new) }
 {
     match read_request(alloc, words) {
-        Err(_) => plain(alloc, Cause::NoMemory),
-        Ok(None) => plain(alloc, Cause::BadWords),
+        Err(_) => plain_answer(alloc, Cause::NoMemory),
+        Ok(None) => plain_answer(alloc, Cause::BadWords),
         Ok(Some(request)) => answer_request(alloc, shelf, &request),
     }
 }

@@ -10,6 +10,6 @@ use Rattle.spl_driver.proofs.Fetching.{told_again}
 
 pub returns-in-Err : goal.returns-in-Err
 returns-in-Err g c =
-    plain_request _ _ _ C.NoMemory c.plain.result _ _ _ _ c.plain.ensures.cause (not_run C.NoMemory refl) tt tt tt (quiet_shown C.NoMemory _ _ _ tt tt (λ n. refl))
-    (built_words c.args.request.now C.NoMemory _ _ c.requires.built) c.plain.ensures.text c.plain.ensures.ran (λ small. refl)
-    (wanting_answer begun_same _ _ _ c.plain.result.ended _ _ c.plain.ensures.cause (told_again _) (λ n. refl))
+    plain_request _ _ _ C.NoMemory c.plain_answer.result _ _ _ _ c.plain_answer.ensures.cause (not_run C.NoMemory refl) tt tt tt (quiet_shown C.NoMemory _ _ _ tt tt (λ n. refl))
+    (built_words c.args.request.now C.NoMemory _ _ c.requires.built) c.plain_answer.ensures.text c.plain_answer.ensures.ran (λ small. refl)
+    (wanting_answer begun_same _ _ _ c.plain_answer.result.ended _ _ c.plain_answer.ensures.cause (told_again _) (λ n. refl))

@@ -4,8 +4,8 @@ use Rattle.spl_driver.proofs.run.ended_run.Goals as goal
 
 pub returns-in-NotCreated : goal.returns-in-NotCreated
 returns-in-NotCreated c =
-    ends_not_created c.args.sunk.now c.in-NotCreated.place c.args.counted c.args.checked.now (names_of c.args.files.now.sinks c.args.files.now.last) c.args.fault c.args.arrivals c.plain.result c.name_at.result.now _ c.in-NotCreated.is
-    c.name_at.ensures c.open_failed.ensures c.plain.ensures.cause c.plain.ensures.text c.plain.ensures.ran
+    ends_not_created c.args.sunk.now c.in-NotCreated.place c.args.counted c.args.checked.now (names_of c.args.files.now.sinks c.args.files.now.last) c.args.fault c.args.arrivals c.plain_answer.result c.name_at.result.now _ c.in-NotCreated.is
+    c.name_at.ensures c.open_failed.ensures c.plain_answer.ensures.cause c.plain_answer.ensures.text c.plain_answer.ensures.ran
 
 pub returns-in-NotWritten : goal.returns-in-NotWritten
 returns-in-NotWritten c =

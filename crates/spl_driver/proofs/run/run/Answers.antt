@@ -13,25 +13,25 @@ use Rattle.spl_driver.proofs.run.run.Goals as goal
 
 pub returns-in-OpenFailed-clause-files : goal.returns-in-OpenFailed-clause-files
 returns-in-OpenFailed-clause-files g c =
-    unopened_files begun_same _ _ (λ t. IsRunOf c.args.checked.now c.args.order.now c.plain.result.ended.arrivals t) _ c.in-OpenFailed.name c.plain.result.ended _ _ c.plain.ensures.cause c.in-OpenFailed.ensures.told c.in-OpenFailed.ensures.reads c.in-OpenFailed.ensures.cause refl
+    unopened_files begun_same _ _ (λ t. IsRunOf c.args.checked.now c.args.order.now c.plain_answer.result.ended.arrivals t) _ c.in-OpenFailed.name c.plain_answer.result.ended _ _ c.plain_answer.ensures.cause c.in-OpenFailed.ensures.told c.in-OpenFailed.ensures.reads c.in-OpenFailed.ensures.cause refl
 
 pub returns-in-OpenFailed-clause-recorded : goal.returns-in-OpenFailed-clause-recorded
-returns-in-OpenFailed-clause-recorded g c = same_record _ _ c.args.written.now c.args.checked.now (C.OpenFailed c.in-OpenFailed.name) c.plain.result.ended _ _ c.plain.ensures.cause refl c.in-OpenFailed.ensures.told
+returns-in-OpenFailed-clause-recorded g c = same_record _ _ c.args.written.now c.args.checked.now (C.OpenFailed c.in-OpenFailed.name) c.plain_answer.result.ended _ _ c.plain_answer.ensures.cause refl c.in-OpenFailed.ensures.told
 
 pub returns-in-OpenFailed-clause-counts : goal.returns-in-OpenFailed-clause-counts
-returns-in-OpenFailed-clause-counts g c = unopened_counts c.plain.result.ended.cause _ c.in-OpenFailed.name _ _ c.plain.ensures.cause c.in-OpenFailed.ensures.cause refl c.args.checked.now.parts
+returns-in-OpenFailed-clause-counts g c = unopened_counts c.plain_answer.result.ended.cause _ c.in-OpenFailed.name _ _ c.plain_answer.ensures.cause c.in-OpenFailed.ensures.cause refl c.args.checked.now.parts
 
 pub returns-in-OpenFailed-clause-kinds : goal.returns-in-OpenFailed-clause-kinds
-returns-in-OpenFailed-clause-kinds g c = may_end c.args.order.now c.plain.result.ended.cause (not_bad c.plain.result.ended.cause (C.OpenFailed c.in-OpenFailed.name) c.plain.ensures.cause refl)
+returns-in-OpenFailed-clause-kinds g c = may_end c.args.order.now c.plain_answer.result.ended.cause (not_bad c.plain_answer.result.ended.cause (C.OpenFailed c.in-OpenFailed.name) c.plain_answer.ensures.cause refl)
 
 pub returns-in-OpenFailed-clause-followed : goal.returns-in-OpenFailed-clause-followed
-returns-in-OpenFailed-clause-followed g c = follows_not c.args.order.now c.plain.result.ended (ends_at c.plain.result.ended.cause (C.OpenFailed c.in-OpenFailed.name) c.plain.ensures.cause refl)
+returns-in-OpenFailed-clause-followed g c = follows_not c.args.order.now c.plain_answer.result.ended (ends_at c.plain_answer.result.ended.cause (C.OpenFailed c.in-OpenFailed.name) c.plain_answer.ensures.cause refl)
 
 pub returns-in-OpenFailed-clause-reason : goal.returns-in-OpenFailed-clause-reason
-returns-in-OpenFailed-clause-reason g c = subst (λ (k : Cause). ReasonOf k c.args.checked.now) (sym c.plain.ensures.cause) tt
+returns-in-OpenFailed-clause-reason g c = subst (λ (k : Cause). ReasonOf k c.args.checked.now) (sym c.plain_answer.ensures.cause) tt
 
 pub returns-in-OpenFailed-clause-ran : goal.returns-in-OpenFailed-clause-ran
-returns-in-OpenFailed-clause-ran g c = at_plain c.plain.result.ended.cause (C.OpenFailed c.in-OpenFailed.name) _ _ c.plain.result.ended _ _ c.plain.ensures.cause tt c.plain.ensures.ran
+returns-in-OpenFailed-clause-ran g c = at_plain c.plain_answer.result.ended.cause (C.OpenFailed c.in-OpenFailed.name) _ _ c.plain_answer.result.ended _ _ c.plain_answer.ensures.cause tt c.plain_answer.ensures.ran
 
 -- ---- the record isn't whole
 
@@ -66,47 +66,47 @@ returns-in-NotWhole-clause-ran g c = bad_ran c.bad_arrivals.result.ended.cause (
 
 pub returns-in-Memory-clause-files : goal.returns-in-Memory-clause-files
 returns-in-Memory-clause-files g c =
-    wanting_files begun_same _ _ (λ t. IsRunOf c.args.checked.now c.args.order.now c.plain-in-Memory.result.ended.arrivals t) _ c.plain-in-Memory.result.ended _ _ c.plain-in-Memory.ensures.cause c.in-Memory.ensures.told c.in-Memory.ensures.reads c.in-Memory.ensures.cause
+    wanting_files begun_same _ _ (λ t. IsRunOf c.args.checked.now c.args.order.now c.plain_answer-in-Memory.result.ended.arrivals t) _ c.plain_answer-in-Memory.result.ended _ _ c.plain_answer-in-Memory.ensures.cause c.in-Memory.ensures.told c.in-Memory.ensures.reads c.in-Memory.ensures.cause
 
 pub returns-in-Memory-clause-recorded : goal.returns-in-Memory-clause-recorded
-returns-in-Memory-clause-recorded g c = same_record _ _ c.args.written.now c.args.checked.now C.NoMemory c.plain-in-Memory.result.ended _ _ c.plain-in-Memory.ensures.cause refl c.in-Memory.ensures.told
+returns-in-Memory-clause-recorded g c = same_record _ _ c.args.written.now c.args.checked.now C.NoMemory c.plain_answer-in-Memory.result.ended _ _ c.plain_answer-in-Memory.ensures.cause refl c.in-Memory.ensures.told
 
 pub returns-in-Memory-clause-counts : goal.returns-in-Memory-clause-counts
-returns-in-Memory-clause-counts g c = wanting_counts c.plain-in-Memory.result.ended.cause _ _ _ c.plain-in-Memory.ensures.cause c.in-Memory.ensures.cause refl c.args.checked.now.parts
+returns-in-Memory-clause-counts g c = wanting_counts c.plain_answer-in-Memory.result.ended.cause _ _ _ c.plain_answer-in-Memory.ensures.cause c.in-Memory.ensures.cause refl c.args.checked.now.parts
 
 pub returns-in-Memory-clause-kinds : goal.returns-in-Memory-clause-kinds
-returns-in-Memory-clause-kinds g c = may_end c.args.order.now c.plain-in-Memory.result.ended.cause (not_bad c.plain-in-Memory.result.ended.cause C.NoMemory c.plain-in-Memory.ensures.cause refl)
+returns-in-Memory-clause-kinds g c = may_end c.args.order.now c.plain_answer-in-Memory.result.ended.cause (not_bad c.plain_answer-in-Memory.result.ended.cause C.NoMemory c.plain_answer-in-Memory.ensures.cause refl)
 
 pub returns-in-Memory-clause-followed : goal.returns-in-Memory-clause-followed
-returns-in-Memory-clause-followed g c = follows_not c.args.order.now c.plain-in-Memory.result.ended (ends_at c.plain-in-Memory.result.ended.cause C.NoMemory c.plain-in-Memory.ensures.cause refl)
+returns-in-Memory-clause-followed g c = follows_not c.args.order.now c.plain_answer-in-Memory.result.ended (ends_at c.plain_answer-in-Memory.result.ended.cause C.NoMemory c.plain_answer-in-Memory.ensures.cause refl)
 
 pub returns-in-Memory-clause-reason : goal.returns-in-Memory-clause-reason
-returns-in-Memory-clause-reason g c = subst (λ (k : Cause). ReasonOf k c.args.checked.now) (sym c.plain-in-Memory.ensures.cause) tt
+returns-in-Memory-clause-reason g c = subst (λ (k : Cause). ReasonOf k c.args.checked.now) (sym c.plain_answer-in-Memory.ensures.cause) tt
 
 pub returns-in-Memory-clause-ran : goal.returns-in-Memory-clause-ran
-returns-in-Memory-clause-ran g c = at_plain c.plain-in-Memory.result.ended.cause C.NoMemory _ _ c.plain-in-Memory.result.ended _ _ c.plain-in-Memory.ensures.cause tt c.plain-in-Memory.ensures.ran
+returns-in-Memory-clause-ran g c = at_plain c.plain_answer-in-Memory.result.ended.cause C.NoMemory _ _ c.plain_answer-in-Memory.result.ended _ _ c.plain_answer-in-Memory.ensures.cause tt c.plain_answer-in-Memory.ensures.ran
 
 pub returns-in-Err-clause-files : goal.returns-in-Err-clause-files
 returns-in-Err-clause-files g c =
-    wanting_files begun_same _ _ (λ t. IsRunOf c.args.checked.now c.args.order.now c.plain-in-Err.result.ended.arrivals t) _ c.plain-in-Err.result.ended _ _ c.plain-in-Err.ensures.cause c.in-Ran.ensures.told c.in-Ran.ensures.reads c.in-Ran.ensures.cause.others
+    wanting_files begun_same _ _ (λ t. IsRunOf c.args.checked.now c.args.order.now c.plain_answer-in-Err.result.ended.arrivals t) _ c.plain_answer-in-Err.result.ended _ _ c.plain_answer-in-Err.ensures.cause c.in-Ran.ensures.told c.in-Ran.ensures.reads c.in-Ran.ensures.cause.others
 
 pub returns-in-Err-clause-recorded : goal.returns-in-Err-clause-recorded
-returns-in-Err-clause-recorded g c = same_record _ _ c.args.written.now c.args.checked.now C.NoMemory c.plain-in-Err.result.ended _ _ c.plain-in-Err.ensures.cause refl c.in-Ran.ensures.told
+returns-in-Err-clause-recorded g c = same_record _ _ c.args.written.now c.args.checked.now C.NoMemory c.plain_answer-in-Err.result.ended _ _ c.plain_answer-in-Err.ensures.cause refl c.in-Ran.ensures.told
 
 pub returns-in-Err-clause-counts : goal.returns-in-Err-clause-counts
-returns-in-Err-clause-counts g c = wanting_counts c.plain-in-Err.result.ended.cause _ _ _ c.plain-in-Err.ensures.cause c.in-Ran.ensures.cause.others refl c.args.checked.now.parts
+returns-in-Err-clause-counts g c = wanting_counts c.plain_answer-in-Err.result.ended.cause _ _ _ c.plain_answer-in-Err.ensures.cause c.in-Ran.ensures.cause.others refl c.args.checked.now.parts
 
 pub returns-in-Err-clause-kinds : goal.returns-in-Err-clause-kinds
-returns-in-Err-clause-kinds g c = may_end c.args.order.now c.plain-in-Err.result.ended.cause (not_bad c.plain-in-Err.result.ended.cause C.NoMemory c.plain-in-Err.ensures.cause refl)
+returns-in-Err-clause-kinds g c = may_end c.args.order.now c.plain_answer-in-Err.result.ended.cause (not_bad c.plain_answer-in-Err.result.ended.cause C.NoMemory c.plain_answer-in-Err.ensures.cause refl)
 
 pub returns-in-Err-clause-followed : goal.returns-in-Err-clause-followed
-returns-in-Err-clause-followed g c = follows_not c.args.order.now c.plain-in-Err.result.ended (ends_at c.plain-in-Err.result.ended.cause C.NoMemory c.plain-in-Err.ensures.cause refl)
+returns-in-Err-clause-followed g c = follows_not c.args.order.now c.plain_answer-in-Err.result.ended (ends_at c.plain_answer-in-Err.result.ended.cause C.NoMemory c.plain_answer-in-Err.ensures.cause refl)
 
 pub returns-in-Err-clause-reason : goal.returns-in-Err-clause-reason
-returns-in-Err-clause-reason g c = subst (λ (k : Cause). ReasonOf k c.args.checked.now) (sym c.plain-in-Err.ensures.cause) tt
+returns-in-Err-clause-reason g c = subst (λ (k : Cause). ReasonOf k c.args.checked.now) (sym c.plain_answer-in-Err.ensures.cause) tt
 
 pub returns-in-Err-clause-ran : goal.returns-in-Err-clause-ran
-returns-in-Err-clause-ran g c = at_plain c.plain-in-Err.result.ended.cause C.NoMemory _ _ c.plain-in-Err.result.ended _ _ c.plain-in-Err.ensures.cause tt c.plain-in-Err.ensures.ran
+returns-in-Err-clause-ran g c = at_plain c.plain_answer-in-Err.result.ended.cause C.NoMemory _ _ c.plain_answer-in-Err.result.ended _ _ c.plain_answer-in-Err.ensures.cause tt c.plain_answer-in-Err.ensures.ran
 
 -- ---- its files were written
 

@@ -12,13 +12,13 @@ use Rattle.spl_driver.proofs.Fetching.{told_again}
 
 pub returns-in-Err : goal.returns-in-Err
 returns-in-Err g c =
-    plain_request _ _ _ C.NoMemory c.plain.result _ _ _ _ c.plain.ensures.cause (not_run C.NoMemory refl) tt tt tt (quiet_shown C.NoMemory _ _ _ tt tt (λ n. refl)) (wanting_words _ _ _ (λ n. refl)) c.plain.ensures.text
-    c.plain.ensures.ran (λ small. refl) (wanting_answer begun_same _ _ _ c.plain.result.ended _ _ c.plain.ensures.cause (told_again _) (λ n. refl))
+    plain_request _ _ _ C.NoMemory c.plain_answer.result _ _ _ _ c.plain_answer.ensures.cause (not_run C.NoMemory refl) tt tt tt (quiet_shown C.NoMemory _ _ _ tt tt (λ n. refl)) (wanting_words _ _ _ (λ n. refl)) c.plain_answer.ensures.text
+    c.plain_answer.ensures.ran (λ small. refl) (wanting_answer begun_same _ _ _ c.plain_answer.result.ended _ _ c.plain_answer.ensures.cause (told_again _) (λ n. refl))
 
 pub returns-in-Ok-None : goal.returns-in-Ok-None
 returns-in-Ok-None g c =
     let told = g.H.Shelf.told c.args.shelf.now in
     let counts = g.H.Shelf.counts c.args.shelf.now in
     let lent = g.H.Shelf.lent c.args.shelf.now in
-    subst (λ (o : Option Request). AnswersRequest o c.plain-in-Ok-None.result told told counts counts lent lent) (sym c.in-Ok-None.field-0-is ∙ c.in-Ok-None.ensures)
-    (no_request_answer told c.plain-in-Ok-None.result counts lent c.plain-in-Ok-None.ensures.cause c.plain-in-Ok-None.ensures.text c.plain-in-Ok-None.ensures.ran)
+    subst (λ (o : Option Request). AnswersRequest o c.plain_answer-in-Ok-None.result told told counts counts lent lent) (sym c.in-Ok-None.field-0-is ∙ c.in-Ok-None.ensures)
+    (no_request_answer told c.plain_answer-in-Ok-None.result counts lent c.plain_answer-in-Ok-None.ensures.cause c.plain_answer-in-Ok-None.ensures.text c.plain_answer-in-Ok-None.ensures.ran)

@@ -1,7 +1,7 @@
 use Rattle.std.proofs.Common.{◌≤◌, length}
 use Rattle.row_reader.specs.Columns.{attributes}
 use Rattle.row_reader.proofs.Cutting.{ReadSoFar}
-use Rattle.row_reader.proofs.plain.read_plain.Given as goal
+use Rattle.row_reader.proofs.unmarked.read_plain.Given as goal
 
 abbrev pub invariant-columns : goal.invariant-columns
 invariant-columns l = record {

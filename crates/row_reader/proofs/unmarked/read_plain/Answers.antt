@@ -1,8 +1,8 @@
 use Rattle.std.proofs.Common.{ap, ◌+◌, arith}
 use Rattle.row_reader.specs.Columns.{attributes}
 use Rattle.row_reader.proofs.Cutting.{all_read, columns_all, next_field, last_field, tail_short}
-use Rattle.row_reader.proofs.plain.read_plain.Goals as goal
-use Rattle.row_reader.proofs.plain.read_plain.Goals.{then-end-rest, else-end-rest}
+use Rattle.row_reader.proofs.unmarked.read_plain.Goals as goal
+use Rattle.row_reader.proofs.unmarked.read_plain.Goals.{then-end-rest, else-end-rest}
 
 pub columns-preserved : goal.columns-preserved
 columns-preserved c =
