@@ -11,7 +11,7 @@ use Rattle.spl_value.specs.declared.packet.Packet.{Packet}
 use Rattle.spl_value.specs.declared.packet.Packet.TheVariants as P
 use Rattle.spl_value.proofs.Lists.{append_last, get_set_same, set_elsewhere}
 use Rattle.spl_value.specs.Numbered.{closes, cut, item_of, items_of, number_of, numbers_of, is_last, is_cut, reaches, Rule, ByTurns, ByNumbers, ByPulses, known_by_pulses, with_packet, NeverFalls, AreApart, AreInTurn}
-use Rattle.channel_heads.specs.Held.{Held, Stands, Stands.New, Stands.Took, Stands.Gave, new_held, is_live, head_at, bound_at, is_done, wants, is_waiting, no_heads, takes, gives, IsNext, IsLeast}
+use Rattle.channel_heads.specs.Held.{Held, MergerHolds, MergerHolds.New, MergerHolds.Took, MergerHolds.Gave, new_held, is_live, head_at, bound_at, is_done, wants, is_waiting, no_heads, takes, gives, IsNext, IsLeast}
 use Rattle.channel_heads.proofs.ByNumber.{Tagged, Gift, is_number, AtLeast, Climbs, WithinWidth, front, front-cons, least-append}
 use Rattle.channel_heads.proofs.Packets.{last_or, last_or-append, none_right, any_right, reached_next, last_reaches, item_reaches, close_reaches, all_channels, channel_of_all, packet_here, by_packet, apart_before, turns_before, known_more, one_division}
 
@@ -556,7 +556,7 @@ gave_facts rule w c n x h taken given l e next f =
         go true e = absurd cc
         go false e = e
 
-pub facts : (rule : Rule) (w : ℕ) (h : Held) (taken : ℕ → List Packet) (given : List Item) → Stands rule w h taken given → Facts rule w h taken given
+pub facts : (rule : Rule) (w : ℕ) (h : Held) (taken : ℕ → List Packet) (given : List Item) → MergerHolds rule w h taken given → Facts rule w h taken given
 facts rule w _ _ _ (New l) = new_facts rule w l
 facts rule w _ _ _ (Took {h} {taken} {given} c p s l want) = took_facts rule w c p h taken given l want (facts rule w h taken given s)
 facts rule w _ _ _ (Gave {h} {taken} {given} c n x s l e next) = gave_facts rule w c n x h taken given l e next (facts rule w h taken given s)

@@ -88,9 +88,9 @@ IsBlocked ByPulses width count h = ((c : ℕ) → c < width → head_at h c ≡ 
     ⊎ ((d : ℕ) × (d < width) × ((c n : ℕ) (x : Item) → head_at h c ≡ Some (n, x) → is_waiting h n d ≡ true))
 
 -- what a new merger of `width` channels holds after calls that took these packets and gave these items
-pub data Stands (rule : Rule) (width : ℕ) : Held → (ℕ → List Packet) → List Item → Type 0 where
-  New : 0 < width → Stands rule width (new_held width) (λ c. []) []
-  Took : {h : Held} {taken : ℕ → List Packet} {given : List Item} (c : ℕ) (packet : Packet) → Stands rule width h taken given
-      → c < width → wants h c ≡ true → Stands rule width (takes c packet h) (with_packet taken c packet) given
-  Gave : {h : Held} {taken : ℕ → List Packet} {given : List Item} (c n : ℕ) (x : Item) → Stands rule width h taken given
-      → c < width → head_at h c ≡ Some (n, x) → IsNext rule width (length given) h c n → Stands rule width (gives c x h) taken (given ++ x ∷ [])
+pub data MergerHolds (rule : Rule) (width : ℕ) : Held → (ℕ → List Packet) → List Item → Type 0 where
+  New : 0 < width → MergerHolds rule width (new_held width) (λ c. []) []
+  Took : {h : Held} {taken : ℕ → List Packet} {given : List Item} (c : ℕ) (packet : Packet) → MergerHolds rule width h taken given
+      → c < width → wants h c ≡ true → MergerHolds rule width (takes c packet h) (with_packet taken c packet) given
+  Gave : {h : Held} {taken : ℕ → List Packet} {given : List Item} (c n : ℕ) (x : Item) → MergerHolds rule width h taken given
+      → c < width → head_at h c ≡ Some (n, x) → IsNext rule width (length given) h c n → MergerHolds rule width (gives c x h) taken (given ++ x ∷ [])

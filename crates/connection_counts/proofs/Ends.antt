@@ -6,7 +6,7 @@ use Rattle.spl_value.specs.declared.item.Item.TheVariants as I
 use Rattle.stream_model.specs.Stream.{Event, came}
 use Rattle.stream_model.specs.Operators.{Operator, port_at, ports}
 use Rattle.stream_model.specs.PortEvents.{is_last, is_over, is_waiting}
-use Rattle.connection_counts.specs.Counting.{Counts, open_at, open_from, open_in}
+use Rattle.connection_counts.specs.Counting.{CountsOpen, open_at, open_from, open_in}
 use Rattle.connection_counts.proofs.Counting.{none_open, one_fewer}
 use Rattle.spl_value.proofs.Lists.{get_set_same, get_within}
 use Rattle.stream_model.proofs.ByPorts.{input_port}
@@ -47,7 +47,7 @@ closed op h i lt was = record {
     at = input_port op i (lt-ltb i (length (ports op)) lt)
 
 -- an open port has an open connection, and it is one of the open ones
-pub some_open : (op : Operator) (h : List Event) (i was_open : ℕ) (own open_of : List ℕ) (left : ℕ) → Counts op h own open_of left → i < length (ports op) → is_over h i ≡ false
+pub some_open : (op : Operator) (h : List Event) (i was_open : ℕ) (own open_of : List ℕ) (left : ℕ) → CountsOpen op h own open_of left → i < length (ports op) → is_over h i ≡ false
     → slice_get open_of (port_at own i) ≡ Some was_open → (was_open ≡ 1 + open_at op (port_at (ports op) i) (came i I.Final ∷ h)) × (left ≡ 1 + open_in op (came i I.Final ∷ h))
 some_open op h i was_open own open_of left counts lt was at =
     let k = closed op h i lt was in
@@ -63,8 +63,8 @@ get_set_other (y ∷ xs) (suc k) zero x apart = refl
 get_set_other (y ∷ xs) (suc k) (suc j) x apart = get_set_other xs k j x (λ e. apart (ap suc e))
 
 -- the counts with one fewer at the port and in all
-pub counts_after : (op : Operator) (h : List Event) (i was_open : ℕ) (own open_of : List ℕ) (left : ℕ) → Counts op h own open_of left → i < length (ports op) → is_over h i ≡ false
-    → slice_get open_of (port_at own i) ≡ Some was_open → Counts op (came i I.Final ∷ h) own (slice_set open_of (port_at own i) (was_open - 1)) (left - 1)
+pub counts_after : (op : Operator) (h : List Event) (i was_open : ℕ) (own open_of : List ℕ) (left : ℕ) → CountsOpen op h own open_of left → i < length (ports op) → is_over h i ≡ false
+    → slice_get open_of (port_at own i) ≡ Some was_open → CountsOpen op (came i I.Final ∷ h) own (slice_set open_of (port_at own i) (was_open - 1)) (left - 1)
 counts_after op h i was_open own open_of left counts lt was at = record {
   ports_are = counts.ports_are;
   each = each;
@@ -109,11 +109,11 @@ pub read_at : (own open_of : List ℕ) (i p : ℕ) (found : Option ℕ) → p �
 read_at own open_of i p found is at = ap (slice_get open_of) (sym is) ∙ at
 
 -- and as it is written
-pub counts_moved : (op : Operator) (h : List Event) (i was_open p : ℕ) (own open_of : List ℕ) (left : ℕ) (next : List ℕ) → Counts op h own open_of left → i < length (ports op)
+pub counts_moved : (op : Operator) (h : List Event) (i was_open p : ℕ) (own open_of : List ℕ) (left : ℕ) (next : List ℕ) → CountsOpen op h own open_of left → i < length (ports op)
     → is_over h i ≡ false → p ≡ port_at own i → slice_get open_of (port_at own i) ≡ Some was_open → next ≡ slice_set open_of p (was_open - 1)
-    → Counts op (came i I.Final ∷ h) own next (left - 1)
+    → CountsOpen op (came i I.Final ∷ h) own next (left - 1)
 counts_moved op h i was_open p own open_of left next counts lt was is at set =
-    subst (λ n. Counts op (came i I.Final ∷ h) own n (left - 1)) (ap (λ k. slice_set open_of k (was_open - 1)) (sym is) ∙ sym set)
+    subst (λ n. CountsOpen op (came i I.Final ∷ h) own n (left - 1)) (ap (λ k. slice_set open_of k (was_open - 1)) (sym is) ∙ sym set)
     (counts_after op h i was_open own open_of left counts lt was at)
 
 -- a port that has an input there is the one that is read
@@ -123,7 +123,7 @@ port_read (q ∷ own) zero p at = sym (some_same q p at)
 port_read (q ∷ own) (suc i) p at = port_read own i p at
 
 -- the count of an input's port is there
-pub count_there : (op : Operator) (h : List Event) (i : ℕ) (own open_of : List ℕ) (left : ℕ) → Counts op h own open_of left → i < length (ports op) → is_over h i ≡ false
+pub count_there : (op : Operator) (h : List Event) (i : ℕ) (own open_of : List ℕ) (left : ℕ) → CountsOpen op h own open_of left → i < length (ports op) → is_over h i ≡ false
     → slice_get open_of (port_at own i) ≡ None → ⊥
 count_there op h i own open_of left counts lt was none =
     let k = closed op h i lt was in

@@ -4,7 +4,7 @@ use Rattle.std.specs.Option.{option_map}
 use Rattle.std.proofs.lemmas.Option.{slice_get-map}
 use Rattle.spl_value.proofs.Lists.{get_below, next_rest, drop_past}
 use Rattle.stream_model.specs.Operators.{Operator, ports, ports_from}
-use Rattle.connection_counts.specs.Counting.{Counts, open_at}
+use Rattle.connection_counts.specs.Counting.{CountsOpen, open_at}
 use Rattle.connection_counts.proofs.Counting.{all_open, port_open}
 use Rattle.std.proofs.lemmas.List.{append-nil}
 
@@ -47,7 +47,7 @@ no_more_counts open_of k ins all is = sym (append-nil open_of) ∙ ap (λ rest. 
 
 -- all connections are open, at each port and in all
 pub counts_start : (op : Operator) (ins : List (List ℕ)) (own open_of : List ℕ) (left : ℕ) → op.ins ≡ ins → own ≡ ports_from 0 ins → open_of ≡ map length ins → left ≡ length own
-    → Counts op [] own open_of left
+    → CountsOpen op [] own open_of left
 counts_start op ins own open_of left same ports_are open_are all = record {
   ports_are = ports_are ∙ ap (ports_from 0) (sym same);
   each = λ p below.

@@ -22,7 +22,7 @@ abbrev pub open_in : Operator → List Event → ℕ
 open_in op h = open_from (λ q. true) (ports op) 0 h
 
 -- the port of each input, how many connections of each port are open, and how many there are in all, after a history
-pub record Counts (op : Operator) (h : List Event) (own : List ℕ) (open_of : List ℕ) (left : ℕ) : Type 0 where
+pub record CountsOpen (op : Operator) (h : List Event) (own : List ℕ) (open_of : List ℕ) (left : ℕ) : Type 0 where
   pub ports_are : own ≡ ports op
   pub each : (p : ℕ) → p < length op.ins → slice_get open_of p ≡ Some (open_at op p h)
   pub all : left ≡ open_in op h

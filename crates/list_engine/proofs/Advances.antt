@@ -23,7 +23,7 @@ use Rattle.list_engine.specs.steps.Faults.{fault_at}
 use Rattle.list_engine.specs.steps.Keeping.{IsKept}
 use Rattle.list_engine.specs.steps.Reading.{ops_at}
 use Rattle.list_engine.specs.steps.Recording.{recorded_at}
-use Rattle.list_engine.specs.steps.Running.{Agrees, Means, Stands}
+use Rattle.list_engine.specs.steps.Running.{Agrees, Means, LeftToRun}
 use Rattle.list_engine.proofs.Advancing.{HasTaken, apart_from, earlier_or_this, fault_count, fault_other, sink_count, sink_other, table_count, table_made, table_other, there_is}
 use Rattle.list_engine.proofs.Operators.{Here, IsRight}
 use Rattle.list_engine.proofs.Orders.{place_of}
@@ -51,7 +51,7 @@ read_by_all (p ∷ ops) zero o s at reads =
 read_by_all (p ∷ ops) (suc n) o s at reads = or_right (reads_stream p s) (is_read ops s) (read_by_all ops n o s at reads)
 
 module _ (c : CheckedGraph) (order : Order) (g : Graph) (rows : List (List Item)) (later : List ℕ) (n : ℕ) (o : Operator) (given : Given) (fault : Option Fault) (old mid new : State)
-    (st : Stands c order g rows (n ∷ later) old) (h : Here c g st.before later n o) (taken : HasTaken g later o old mid) (kept : IsKept o.outs n given fault mid new)
+    (st : LeftToRun c order g rows (n ∷ later) old) (h : Here c g st.before later n o) (taken : HasTaken g later o old mid) (kept : IsKept o.outs n given fault mid new)
     (within : n < length old.inputs) (room : (o.outs ≡ [] → n < length old.sinks) × (o.outs ≡ [] → n < length old.faults))
     (several : is_some given.inputs ≡ has_several (connections o)) where
   inputs_are_set : new.inputs ≡ slice_set old.inputs n given.inputs
@@ -142,7 +142,7 @@ module _ (c : CheckedGraph) (order : Order) (g : Graph) (rows : List (List Item)
       → (has_several (connections o) ≡ true → entries n ≡ unwrap_or given.inputs []) → IsRight c (meaning g (rows_at rows) entries) entries o given fault)
       → ((entries : Entries) → Means c g (meaning g (rows_at rows) entries) entries st.before (n ∷ later) old → has_several (connections o) ≡ true
       → entries n ≡ unwrap_or given.inputs [] → Follows order o (lists_at (meaning g (rows_at rows) entries).streams (connections o)) (entries o.number))
-      → Stands c order g rows later new
+      → LeftToRun c order g rows later new
   advances right follows = record {
     before = st.before ++ n ∷ [];
     split = st.split ∙ sym (append_assoc st.before (n ∷ []) later);

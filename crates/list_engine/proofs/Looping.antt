@@ -24,7 +24,7 @@ use Rattle.list_engine.specs.Runs.{AreOperators, AreWhole, RowsFit, SinksGiven, 
 use Rattle.list_engine.specs.steps.Faults.{kept_faults}
 use Rattle.list_engine.specs.steps.Reading.{ops_at}
 use Rattle.list_engine.specs.steps.Recording.{lists_from}
-use Rattle.list_engine.specs.steps.Running.{Advances, Agrees, AreLeft, IsOther, IsSource, Means, Ready, Stands}
+use Rattle.list_engine.specs.steps.Running.{Advances, Agrees, AreLeft, IsOther, IsSource, Means, Ready, LeftToRun}
 use Rattle.list_engine.proofs.Faults.{faults_are}
 use Rattle.list_engine.proofs.GraphOperators.{is_numbered, operator_there}
 use Rattle.list_engine.proofs.Orders.{made_from, not_before}
@@ -105,12 +105,12 @@ pub record Remains {S : Type 0} (spec : S → Operator) (stands : S → List Eve
     (state : State) : Type 0 where
   pub left : (g : Graph) → graph_of c ≡ g → AreLeft spec stands g rest operators
   pub fit : (g : Graph) → graph_of c ≡ g → RowsFit g rows
-  pub stood : (g : Graph) → graph_of c ≡ g → Stands c order g rows rest state
+  pub stood : (g : Graph) → graph_of c ≡ g → LeftToRun c order g rows rest state
 
 pub remains_ready : {S : Type 0} (spec : S → Operator) (stands : S → List Event → Type 0) (c : CheckedGraph) (order : Order) (rows : List (List Item)) (rest later : List ℕ) (n : ℕ) (operators : List (Option S))
     (state : State) → Remains spec stands c order rows rest operators state → rest ≡ n ∷ later → Ready c order n later state
 remains_ready spec stands c order rows rest later n operators state r next =
-    (rows, λ g e. (r.fit g e, subst (λ ns. Stands c order g rows ns state) next (r.stood g e)))
+    (rows, λ g e. (r.fit g e, subst (λ ns. LeftToRun c order g rows ns state) next (r.stood g e)))
 
 pub remains_left : {S : Type 0} (spec : S → Operator) (stands : S → List Event → Type 0) (c : CheckedGraph) (order : Order) (rows : List (List Item)) (rest later : List ℕ) (n : ℕ) (operators : List (Option S))
     (state : State) → Remains spec stands c order rows rest operators state → rest ≡ n ∷ later → (g : Graph) → graph_of c ≡ g → AreLeft spec stands g (n ∷ later) operators
@@ -122,7 +122,7 @@ pub remains_next : {S : Type 0} (spec : S → Operator) (stands : S → List Eve
 remains_next spec stands c order rows rest later n operators new_operators state new_state r next left advances = record {
   left = left;
   fit = r.fit;
-  stood = λ g e. advances g rows e (r.fit g e) (subst (λ ns. Stands c order g rows ns state) next (r.stood g e));
+  stood = λ g e. advances g rows e (r.fit g e) (subst (λ ns. LeftToRun c order g rows ns state) next (r.stood g e));
 }
 
 -- ---- before the first operator
@@ -150,7 +150,7 @@ no_number n h = let lt : h.0 < 0 = h.1 in omega (arith, lt)
 
 pub begins : (c : CheckedGraph) (order : Order) (g : Graph) (rows : List (List Item)) (state : State) → Keeps c → graph_of c ≡ g → RowsFit g rows
     → state.streams ≡ replicate (length c.graph.streams) [] → state.rows ≡ rows → state.sinks ≡ replicate (length c.graph.ops) [] → state.faults ≡ replicate (length c.graph.ops) None
-    → state.inputs ≡ replicate (length c.graph.ops) None → Stands c order g rows g.topo state
+    → state.inputs ≡ replicate (length c.graph.ops) None → LeftToRun c order g rows g.topo state
 begins c order g rows state k e fit streams same sinks faults inputs = record {
   before = [];
   split = refl;
@@ -181,14 +181,14 @@ pub remains_first : {S : Type 0} (spec : S → Operator) (stands : S → List Ev
 remains_first spec stands c order rows rest operators state k are fit is streams same sinks faults inputs = record {
   left = λ g e. subst (λ ns. AreLeft spec stands g ns operators) (same_topo c g e ∙ sym is) (all_left spec stands g operators (are g e));
   fit = fit;
-  stood = λ g e. subst (λ ns. Stands c order g rows ns state) (same_topo c g e ∙ sym is) (begins c order g rows state k e (fit g e) streams same sinks faults inputs);
+  stood = λ g e. subst (λ ns. LeftToRun c order g rows ns state) (same_topo c g e ∙ sym is) (begins c order g rows state k e (fit g e) streams same sinks faults inputs);
 }
 
 -- ---- after the last operator
 
 -- what is kept is all of the meaning, under the record that was made of it
 module _ (c : CheckedGraph) (order : Order) (g : Graph) (rows : List (List Item)) (rest : List ℕ) (state : State) (lists : List ArrivalList) (k : Keeps c) (e : graph_of c ≡ g)
-    (stood : Stands c order g rows rest state) (over : length rest < 1) (recorded : lists ≡ lists_from 0 state.inputs) where
+    (stood : LeftToRun c order g rows rest state) (over : length rest < 1) (recorded : lists ≡ lists_from 0 state.inputs) where
   none_rest : rest ≡ []
   none_rest = go rest over
     where
@@ -196,8 +196,8 @@ module _ (c : CheckedGraph) (order : Order) (g : Graph) (rows : List (List Item)
       go [] h = refl
       go (x ∷ xs) h = absurd (omega (arith, h))
 
-  st : Stands c order g rows [] state
-  st = subst (λ ns. Stands c order g rows ns state) none_rest stood
+  st : LeftToRun c order g rows [] state
+  st = subst (λ ns. LeftToRun c order g rows ns state) none_rest stood
 
   among_all : (n : ℕ) (o : Operator) → slice_get g.ops n ≡ Some o → Contains st.before n
   among_all n o at =

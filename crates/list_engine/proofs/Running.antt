@@ -33,7 +33,7 @@ use Rattle.list_engine.specs.Runs.{is_source, rows_at}
 use Rattle.list_engine.specs.steps.Keeping.{GivesNothing, HasRoom, IsKept, kept_ports}
 use Rattle.list_engine.specs.steps.Recording.{entries_at}
 use Rattle.list_engine.specs.steps.Replaying.{FailsOn, RanIn, Stops}
-use Rattle.list_engine.specs.steps.Running.{Advances, HasPlaces, IsOther, IsSource, Means, Ready, Stands, StopsAt}
+use Rattle.list_engine.specs.steps.Running.{Advances, HasPlaces, IsOther, IsSource, Means, Ready, LeftToRun, StopsAt}
 use Rattle.list_engine.specs.steps.Table.{StaysFor}
 use Rattle.list_engine.specs.steps.Taking.{AreInputs, HasGiven, Task, task_of}
 use Rattle.list_engine.proofs.Advances.{advances}
@@ -75,7 +75,7 @@ same_op c g n op o e there at =
     )
 
 here_of : (c : CheckedGraph) (order : Order) (g : Graph) (rows : List (List Item)) (later : List ℕ) (n : ℕ) (o : Operator) (state : State) → Keeps c → graph_of c ≡ g → slice_get g.ops n ≡ Some o
-    → (st : Stands c order g rows (n ∷ later) state) → Here c g st.before later n o
+    → (st : LeftToRun c order g rows (n ∷ later) state) → Here c g st.before later n o
 here_of c order g rows later n o state k e at st = record { keeps = k; graph = e; at = at; order = st.split }
 
 -- ---- a source
@@ -297,7 +297,7 @@ pub other_stops : {S : Type 0} (spec : S → Operator) (stands : S → List Even
     → Stops n (FailsOn order (spec s) lists) answer → StopsAt c order n later old answer
 other_stops spec stands c order later n op s old ss lists answer k other there same made stops g rows e st = go order answer stops st
   where
-    go : (order : Order) (answer : RunAnswer) → Stops n (FailsOn order (spec s) lists) answer → Stands c order g rows (n ∷ later) old → StopsRun answer order g (rows_at rows)
+    go : (order : Order) (answer : RunAnswer) → Stops n (FailsOn order (spec s) lists) answer → LeftToRun c order g rows (n ∷ later) old → StopsRun answer order g (rows_at rows)
     go order Memory stops st = tt
     go InTurn (NotWhole number) stops st = absurd stops.1
     go (Recorded arrivals) (NotWhole number) stops st =

@@ -32,7 +32,7 @@ use Rattle.stream_model.specs.Replies.{AllFit, IsTaken, MayTake, OutsFit, Replie
 use Rattle.stream_model.specs.Fitting.{EventsFit, HistoryFits, IsFitting, ReactsFit, CheckedFits}
 use Rattle.port_reacts.specs.Bodies.{GoesOn}
 use Rattle.port_reacts.specs.PortReplies.{MayTakeAt, RepliesAt, ends_at, gives_at, goes_on}
-use Rattle.connection_counts.specs.Counting.{Counts, open_at}
+use Rattle.connection_counts.specs.Counting.{CountsOpen, open_at}
 use Rattle.connection_counts.proofs.Counting.{none_open, not_final}
 use Rattle.connection_counts.proofs.Ends.{closed}
 use Rattle.op_kit.specs.Standing.{StandsFor}
@@ -184,7 +184,7 @@ taken_before ports R.Memory result ends taken = subst IsTaken ends taken
 
 pub stands_moved : (op : Operator) (old new : List Event → Type 0) (h : List Event) (i p : ℕ) (x : Item) (own open_of : List ℕ) (left outputs : ℕ) (own_now open_now : List ℕ) (left_now : ℕ)
     → StandsFor op old h own open_of left outputs → MayTake op h (came i x) → is_waiting op h (came i x) ≡ false → p ≡ port_at (ports op) i
-    → Counts op (came i x ∷ h) own_now open_now left_now → new (came p x ∷ port_events op h) → StandsFor op new (came i x ∷ h) own_now open_now left_now outputs
+    → CountsOpen op (came i x ∷ h) own_now open_now left_now → new (came p x ∷ port_events op h) → StandsFor op new (came i x ∷ h) own_now open_now left_now outputs
 stands_moved op old new h i p x own open_of left outputs own_now open_now left_now stands may moves port counts next = record {
   fitting = stands.fitting;
   connected = stands.connected;
@@ -196,7 +196,7 @@ stands_moved op old new h i p x own open_of left outputs own_now open_now left_n
 
 pub stands_waiting : (op : Operator) (s : List Event → Type 0) (h : List Event) (i : ℕ) (own open_of : List ℕ) (left outputs : ℕ) (own_now open_now : List ℕ) (left_now : ℕ)
     → WaitingLaw → StandsFor op s h own open_of left outputs → MayTake op h (came i I.Final) → is_waiting op h (came i I.Final) ≡ true
-    → Counts op (came i I.Final ∷ h) own_now open_now left_now → StandsFor op s (came i I.Final ∷ h) own_now open_now left_now outputs
+    → CountsOpen op (came i I.Final ∷ h) own_now open_now left_now → StandsFor op s (came i I.Final ∷ h) own_now open_now left_now outputs
 stands_waiting op s h i own open_of left outputs own_now open_now left_now law stands may waits counts = record {
   fitting = stands.fitting;
   connected = stands.connected;
@@ -207,7 +207,7 @@ stands_waiting op s h i own open_of left outputs own_now open_now left_now law s
 }
 
 -- the counts are those after an event that is no final marker
-pub counts_stay : (op : Operator) (h : List Event) (e : Event) (own open_of : List ℕ) (left : ℕ) → is_final e.item ≡ false → Counts op h own open_of left → Counts op (e ∷ h) own open_of left
+pub counts_stay : (op : Operator) (h : List Event) (e : Event) (own open_of : List ℕ) (left : ℕ) → is_final e.item ≡ false → CountsOpen op h own open_of left → CountsOpen op (e ∷ h) own open_of left
 counts_stay op h e own open_of left none counts = record {
   ports_are = counts.ports_are;
   each = λ p below. counts.each p below ∙ ap (λ n. Some n) (sym (not_final (λ q. q == p) (ports op) 0 e h none));
@@ -222,7 +222,7 @@ not_held part file strict is held = let bad : false ≡ true = sym (ap is_held i
 
 -- ---- as they are asked
 
-port_is : (op : Operator) (h : List Event) (i p : ℕ) (own open_of : List ℕ) (left : ℕ) → Counts op h own open_of left → p ≡ port_at own i → p ≡ port_at (ports op) i
+port_is : (op : Operator) (h : List Event) (i p : ℕ) (own open_of : List ℕ) (left : ℕ) → CountsOpen op h own open_of left → p ≡ port_at own i → p ≡ port_at (ports op) i
 port_is op h i p own open_of left counts port = port ∙ ap (λ ps. port_at ps i) counts.ports_are
 
 -- what may come on an input may come on this port
@@ -239,7 +239,7 @@ asks op s h i p x own open_of left outputs law stands may port = (port_events op
 -- what it is asked of its connections
 pub asks_connections : (op : Operator) (s : List Event → Type 0) (h : List Event) (i : ℕ) (x : Item) (own open_of : List ℕ) (left outputs : ℕ)
     → StandsFor op s h own open_of left outputs → MayTake op h (came i x)
-    → (op : Operator) × (h : List Event) × Counts op h own open_of left × (i < length (ports op)) × (is_over h i ≡ false)
+    → (op : Operator) × (h : List Event) × CountsOpen op h own open_of left × (i < length (ports op)) × (is_over h i ≡ false)
 asks_connections op s h i x own open_of left outputs stands may = (op, h, stands.counts, may.input, over_not h i may.is_open)
 
 -- an event that neither waits nor is the last
@@ -264,7 +264,7 @@ replies_end op s h i p own open_of left outputs r result law stands may port mov
 -- the history that it stands for after an event that doesn't wait
 pub stands_on : (op next : Operator) (old new : List Event → Type 0) (h : List Event) (i p : ℕ) (x : Item) (own open_of : List ℕ) (left outputs : ℕ) (own_now open_now : List ℕ) (left_now : ℕ)
     (r : Reply) → PortEndLaw → next ≡ op → StandsFor op old h own open_of left outputs → MayTake op h (came i x) → p ≡ port_at own i → is_waiting op h (came i x) ≡ false
-    → Counts op (came i x ∷ h) own_now open_now left_now → ((k : List Event) → old k → MayTakeAt op k p x → IsTaken r → new (came p x ∷ k)) → IsTaken r
+    → CountsOpen op (came i x ∷ h) own_now open_now left_now → ((k : List Event) → old k → MayTakeAt op k p x → IsTaken r → new (came p x ∷ k)) → IsTaken r
     → StandsFor next new (came i x ∷ h) own_now open_now left_now outputs
 stands_on op next old new h i p x own open_of left outputs own_now open_now left_now r law same stands may port moves counts moved taken =
     let k = at_own op old h i p x own open_of left outputs law stands may port in
@@ -359,7 +359,7 @@ few_made c n made keeps there =
 -- a new operator stands for no event
 pub stands_first : (c : CheckedGraph) (n : ℕ) (made : Op) (own : Operator) (s : List Event → Type 0) (ports open_of : List ℕ) (left outputs : ℕ) → CheckedFits → Keeps c
     → slice_get c.graph.ops n ≡ Some made → slice_get (graph_of c).ops n ≡ Some own
-    → ((o : Operator) → o.ins ≡ made.ins → Counts o [] ports open_of left) → outputs ≡ length made.outs → s [] → StandsFor own s [] ports open_of left outputs
+    → ((o : Operator) → o.ins ≡ made.ins → CountsOpen o [] ports open_of left) → outputs ≡ length made.outs → s [] → StandsFor own s [] ports open_of left outputs
 stands_first c n made own s ports open_of left outputs law keeps there is counts outs stands =
     let w = operator_from c 0 c.graph.ops c.parts n own is in
     let same : w.op ≡ made = op_same w.op made (sym w.there ∙ there) in

@@ -4,7 +4,7 @@ use Rattle.std.specs.Option.{MatchOption, option_to_list}
 use Rattle.spl_value.specs.declared.item.Item.{Item}
 use Rattle.spl_value.specs.declared.packet.Packet.{Packet}
 use Rattle.spl_value.specs.Numbered.{ByTurns, ByNumbers, InOrder, merged, with_packet}
-use Rattle.channel_heads.specs.Held.{Held, Stands, Stands.New, Stands.Took, Stands.Gave, head_at, wants, width_of, takes, gives}
+use Rattle.channel_heads.specs.Held.{Held, MergerHolds, MergerHolds.New, MergerHolds.Took, MergerHolds.Gave, head_at, wants, width_of, takes, gives}
 use Rattle.channel_heads.proofs.Facts.{facts}
 use Rattle.channel_heads.proofs.Giving.{given_is}
 use Rattle.channel_heads.proofs.MergeLawLemmas.{prefix, whole}
@@ -56,7 +56,7 @@ turn_gave w n next x m taken given s l e next_is = go next_is where
   here : m.turn < w
   here = let z : width_of m.held ≡ w = size in omega arith
 
-  held : Stands ByTurns w (gives m.turn x m.held) taken (given ++ x ∷ [])
+  held : MergerHolds ByTurns w (gives m.turn x m.held) taken (given ++ x ∷ [])
   held = Gave m.turn n x s.held here e (s.rounds, s.turn)
 
   longer : length (given ++ x ∷ []) ≡ length given + 1

@@ -3,7 +3,7 @@ use Rattle.std.specs.Prelude.{◌≡◌, ℕ, ◌+◌, ◌*◌, List, length}
 use Rattle.spl_value.specs.declared.item.Item.{Item}
 use Rattle.spl_value.specs.declared.packet.Packet.{Packet}
 use Rattle.spl_value.specs.Numbered.{ByTurns, ByNumbers}
-use Rattle.channel_heads.specs.Held.{Held, Stands, new_held}
+use Rattle.channel_heads.specs.Held.{Held, MergerHolds, new_held}
 
 pub record Turning : Type 0 where
   pub held : Held
@@ -15,7 +15,7 @@ new_turning width = record { held = new_held width; turn = 0 }
 
 -- a merger by turns of `width` channels that took these packets and gave these items
 pub record TurnStands (width : ℕ) (m : Turning) (taken : ℕ → List Packet) (given : List Item) : Type 0 where
-  pub held : Stands ByTurns width m.held taken given
+  pub held : MergerHolds ByTurns width m.held taken given
   pub rounds : ℕ
   pub turn : length given ≡ rounds * width + m.turn
 
@@ -29,5 +29,5 @@ new_numbering width = record { held = new_held width; next = 0 }
 
 -- a merger by numbers of `width` channels that took these packets and gave these items
 pub record NumberStands (width : ℕ) (m : Numbering) (taken : ℕ → List Packet) (given : List Item) : Type 0 where
-  pub held : Stands ByNumbers width m.held taken given
+  pub held : MergerHolds ByNumbers width m.held taken given
   pub next : length given ≡ m.next

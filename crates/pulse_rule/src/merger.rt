@@ -3,7 +3,7 @@ ghost use Rattle.std.specs.Option.{option_to_list};
 ghost use Rattle.spl_value.specs.declared.item.Item.{Item};
 ghost use Rattle.spl_value.specs.declared.packet.Packet.{Packet};
 ghost use Rattle.spl_value.specs.Numbered.{ByPulses, InOrder, merged, with_packet};
-ghost use Rattle.channel_heads.specs.Held.{Stands, IsLeast, head_at, is_waiting, new_held, wants as wants_lem, width_of, takes, gives};
+ghost use Rattle.channel_heads.specs.Held.{MergerHolds, IsLeast, head_at, is_waiting, new_held, wants as wants_lem, width_of, takes, gives};
 ghost use Rattle.pulse_rule.specs.Merging.{IsHeldBack};
 
 use channel_heads::Heads;
@@ -40,7 +40,7 @@ impl PulseMerger {
         requires { (1 ≤ width) × (width ≤ 16) }
         ensures width { IfOk result (λ m. width_of m ≡ width) }
         ensures new { IfOk result (λ m. m ≡ new_held width) }
-        ensures stands { IfOk result (λ m. Stands ByPulses width m (λ _. []) []) }
+        ensures stands { IfOk result (λ m. MergerHolds ByPulses width m (λ _. []) []) }
     {
         let heads = Heads::new(alloc, width as usize)?;
         Ok(PulseMerger { heads })
@@ -60,8 +60,8 @@ impl PulseMerger {
         requires wants { wants_lem self.old channel ≡ true }
         ensures width { width_of self.new ≡ width_of self.old }
         ensures takes { self.new ≡ takes channel packet self.old }
-        ensures stands { (width : ℕ) (taken : ℕ → List Packet) (given : List Item) → Stands ByPulses width self.old taken given
-            → Stands ByPulses width self.new (with_packet taken channel packet) given }
+        ensures stands { (width : ℕ) (taken : ℕ → List Packet) (given : List Item) → MergerHolds ByPulses width self.old taken given
+            → MergerHolds ByPulses width self.new (with_packet taken channel packet) given }
     {
         self.heads.take(channel as usize, packet);
     }
@@ -73,12 +73,12 @@ impl PulseMerger {
         ensures none { IsNone result ↔ IsHeldBack self.old }
         ensures gives { MatchOption result (self.new ≡ self.old)
             (λ x. (c n : ℕ) × (head_at self.old c ≡ Some (n, x)) × IsLeast self.old n × (self.new ≡ gives c x self.old)) }
-        ensures stands { (width : ℕ) (taken : ℕ → List Packet) (given : List Item) → Stands ByPulses width self.old taken given
-            → Stands ByPulses width self.new taken (given ++ option_to_list result) }
+        ensures stands { (width : ℕ) (taken : ℕ → List Packet) (given : List Item) → MergerHolds ByPulses width self.old taken given
+            → MergerHolds ByPulses width self.new taken (given ++ option_to_list result) }
         // What was given is the front of the merge, and all of it where nothing more comes and the merger wasn't cut.
-        ensures front { (width : ℕ) (taken : ℕ → List Packet) (given : List Item) → Stands ByPulses width self.old taken given → InOrder ByPulses width taken
+        ensures front { (width : ℕ) (taken : ℕ → List Packet) (given : List Item) → MergerHolds ByPulses width self.old taken given → InOrder ByPulses width taken
             → (rest : List Item) × ((given ++ option_to_list result) ++ rest ≡ merged ByPulses width taken) }
-        ensures whole { IsNone result → (width : ℕ) (taken : ℕ → List Packet) (given : List Item) → Stands ByPulses width self.old taken given → InOrder ByPulses width taken
+        ensures whole { IsNone result → (width : ℕ) (taken : ℕ → List Packet) (given : List Item) → MergerHolds ByPulses width self.old taken given → InOrder ByPulses width taken
             → self.old.cut ≡ false → given ≡ merged ByPulses width taken }
     {
         match self.next() {

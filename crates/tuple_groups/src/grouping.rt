@@ -3,7 +3,7 @@ ghost use Rattle.std.specs.Prelude.{◌≡◌, ◌∷◌, ◌++◌, [], IfOk, Li
 ghost use Rattle.spl_value.specs.declared.value.Value.{Value as V};
 ghost use Rattle.stream_model.specs.Groups.{groups as groups_of};
 ghost use Rattle.tuple_groups.specs.Seen.{entry_of, seen};
-ghost use Rattle.tuple_groups.specs.steps.Gathering.{Gathers};
+ghost use Rattle.tuple_groups.specs.steps.Gathering.{HasGroups};
 
 use crate::keys::key_of;
 use indexmap::IndexMap;
@@ -35,7 +35,7 @@ fn gather<'a>(
     places: &Places,
     tuple: &'a Values,
 ) -> Result<(), NoMemory>
-    ensures { IfOk result (λ _. (ts : List (List V)) → Gathers places.now gathered.old ts → Gathers places.now gathered.new (ts ++ tuple.now ∷ [])) }
+    ensures { IfOk result (λ _. (ts : List (List V)) → HasGroups places.now gathered.old ts → HasGroups places.now gathered.new (ts ++ tuple.now ∷ [])) }
 {
     let key = key_of(alloc, tuple, places)?;
     if let Some(members) = gathered.get_mut(&key) {

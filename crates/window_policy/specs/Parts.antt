@@ -14,12 +14,12 @@ abbrev pub CountsTo : Option ℕ → ℕ → ℕ → Type 0
 CountsTo None since n = Unit {0}
 CountsTo (Some every) since n = (0 < every) × (since ≡ n % every)
 
-abbrev pub Counts : WindowRule → ℕ → ℕ → Type 0
-Counts (W.TumblingCount count) since n = 0 < count
-Counts (W.TumblingDelta a limit) since n = Unit {0}
-Counts W.TumblingPunct since n = Unit {0}
-Counts (W.SlidingCount keep every) since n = CountsTo every since n
-Counts (W.SlidingDelta a limit every) since n = CountsTo every since n
+abbrev pub CountsBy : WindowRule → ℕ → ℕ → Type 0
+CountsBy (W.TumblingCount count) since n = 0 < count
+CountsBy (W.TumblingDelta a limit) since n = Unit {0}
+CountsBy W.TumblingPunct since n = Unit {0}
+CountsBy (W.SlidingCount keep every) since n = CountsTo every since n
+CountsBy (W.SlidingDelta a limit every) since n = CountsTo every since n
 
 -- the attribute of a sliding delta rises, where that is known
 abbrev pub RisesWhere : WindowRule → Bool → List (List Value) → Type 0
@@ -32,7 +32,7 @@ RisesWhere (W.SlidingCount keep every) known ts = Unit {0}
 -- a part holds what the window of its key does, by the tuples of the key, the newest first
 pub record Keeps (rule : WindowRule) (part : Part) (ts : List (List Value)) : Type 0 where
   pub items : part.kept.items ≡ held rule ts
-  pub count : Counts rule part.since (length ts)
+  pub count : CountsBy rule part.since (length ts)
   pub rises : RisesWhere rule part.rises part.kept.items
 
 -- nothing is kept for a key without tuples

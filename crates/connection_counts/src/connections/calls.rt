@@ -4,7 +4,7 @@ ghost use Rattle.spl_value.specs.declared.item.Item.TheVariants as I;
 ghost use Rattle.stream_model.specs.Operators.{Operator, ports, port_at};
 ghost use Rattle.stream_model.specs.PortEvents.{is_over};
 ghost use Rattle.stream_model.specs.Stream.{Event, came};
-ghost use Rattle.connection_counts.specs.Counting.{Closes, Counts};
+ghost use Rattle.connection_counts.specs.Counting.{Closes, CountsOpen};
 
 use crate::connections::{Closing, Connections};
 use spl_value::{Ids, Items, NoMemory};
@@ -24,7 +24,7 @@ impl Connections {
     /// Those of the ports that take these streams, all open. An operator has at most 16 ports.
     pub fn new(alloc: Global, ins: &Items<Ids>) -> Result<Connections, NoMemory>
         requires { length ins.now ≤ 16 }
-        ensures { IfOk result (λ c. (op : Operator) → op.ins ≡ ins.now → Counts op [] c.ports c.open c.left) }
+        ensures { IfOk result (λ c. (op : Operator) → op.ins ≡ ins.now → CountsOpen op [] c.ports c.open c.left) }
     {
         let mut ports = Items::new(alloc);
         let mut open = Items::with_capacity(alloc, ins.len())?;
@@ -52,11 +52,11 @@ impl Connections {
 
     /// Takes the final marker of an input, which was open, and says what ends with it.
     pub fn close(&mut self, input: u32) -> Closing
-        requires { (op : Operator) × (h : List Event) × Counts op h self.old.ports self.old.open self.old.left × (input < length (ports op)) × (is_over h input ≡ false) }
-        ensures closes { (op : Operator) (h : List Event) → Counts op h self.old.ports self.old.open self.old.left → input < length (ports op)
+        requires { (op : Operator) × (h : List Event) × CountsOpen op h self.old.ports self.old.open self.old.left × (input < length (ports op)) × (is_over h input ≡ false) }
+        ensures closes { (op : Operator) (h : List Event) → CountsOpen op h self.old.ports self.old.open self.old.left → input < length (ports op)
             → is_over h input ≡ false → Closes op h input result }
-        ensures counts { (op : Operator) (h : List Event) → Counts op h self.old.ports self.old.open self.old.left → input < length (ports op)
-            → is_over h input ≡ false → Counts op (came input I.Final ∷ h) self.new.ports self.new.open self.new.left }
+        ensures counts { (op : Operator) (h : List Event) → CountsOpen op h self.old.ports self.old.open self.old.left → input < length (ports op)
+            → is_over h input ≡ false → CountsOpen op (came input I.Final ∷ h) self.new.ports self.new.open self.new.left }
     {
         let port = self.port(input) as usize;
         let Some(open) = self.open.get(port) else {

@@ -73,7 +73,7 @@ pub record HasPlaces (c : CheckedGraph) (state : State) : Type 0 where
   pub inputs : length state.inputs ≡ length c.graph.ops
 
 -- the operators with the numbers of the rest are still to be run, on these rows
-pub record Stands (c : CheckedGraph) (order : Order) (g : Graph) (rows : List (List Item)) (rest : List ℕ) (state : State) : Type 0 where
+pub record LeftToRun (c : CheckedGraph) (order : Order) (g : Graph) (rows : List (List Item)) (rest : List ℕ) (state : State) : Type 0 where
   pub before : List ℕ
   pub split : g.topo ≡ before ++ rest
   pub places : HasPlaces c state
@@ -84,14 +84,14 @@ pub record Stands (c : CheckedGraph) (order : Order) (g : Graph) (rows : List (L
 
 -- the operator with this number is the next to be run
 abbrev pub Ready : CheckedGraph → Order → ℕ → List ℕ → State → Type 0
-Ready c order n later state = (rows : List (List Item)) × ((g : Graph) → graph_of c ≡ g → RowsFit g rows × Stands c order g rows (n ∷ later) state)
+Ready c order n later state = (rows : List (List Item)) × ((g : Graph) → graph_of c ≡ g → RowsFit g rows × LeftToRun c order g rows (n ∷ later) state)
 
 -- it was run
 abbrev pub Advances : CheckedGraph → Order → ℕ → List ℕ → State → State → Type 0
 Advances c order n later old new =
-    (g : Graph) (rows : List (List Item)) → graph_of c ≡ g → RowsFit g rows → Stands c order g rows (n ∷ later) old → Stands c order g rows later new
+    (g : Graph) (rows : List (List Item)) → graph_of c ≡ g → RowsFit g rows → LeftToRun c order g rows (n ∷ later) old → LeftToRun c order g rows later new
 
 -- the run stops there
 abbrev pub StopsAt : CheckedGraph → Order → ℕ → List ℕ → State → RunAnswer → Type 0
 StopsAt c order n later state answer =
-    (g : Graph) (rows : List (List Item)) → graph_of c ≡ g → Stands c order g rows (n ∷ later) state → StopsRun answer order g (rows_at rows)
+    (g : Graph) (rows : List (List Item)) → graph_of c ≡ g → LeftToRun c order g rows (n ∷ later) state → StopsRun answer order g (rows_at rows)

@@ -14,5 +14,5 @@ At None ts = ts ≡ []
 At (Some members) ts = (seen members.items ≡ ts) × (0 < length ts)
 
 -- the map has the tuples of each group
-abbrev pub Gathers : {S : Type 0} → List ℕ → HashMap (List Value) (Vec (Bor (List Value))) S → List (List Value) → Type 0
-Gathers places m ts = (k : List Value) → At (get equal_key m k) (of_group places ts k)
+abbrev pub HasGroups : {S : Type 0} → List ℕ → HashMap (List Value) (Vec (Bor (List Value))) S → List (List Value) → Type 0
+HasGroups places m ts = (k : List Value) → At (get equal_key m k) (of_group places ts k)

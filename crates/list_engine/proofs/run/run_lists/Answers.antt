@@ -2,7 +2,7 @@ use Rattle.std.proofs.Common.{◌∙◌, [], None, ap, length, replicate, refl, 
 use Rattle.language_model.specs.CheckedGraph.{CheckedGraph}
 use Rattle.language_model.specs.Keeping.{Keeps}
 use Rattle.stream_model.specs.CheckedMeaning.{graph_of}
-use Rattle.list_engine.specs.steps.Running.{Stands}
+use Rattle.list_engine.specs.steps.Running.{LeftToRun}
 use Rattle.list_engine.proofs.Gathering.{first_and_rest}
 use Rattle.list_engine.proofs.Looping.{fault_all, lists_all, ordered_all, remains_first, remains_left, remains_next, remains_ready, sinks_given, whole_all}
 use Rattle.list_engine.proofs.run.run_lists.Goals as goal
@@ -72,4 +72,4 @@ returns-clause-ordered g c = λ x e.
 pub returns-in-Err-clause-stops : goal.returns-in-Err-clause-stops
 returns-in-Err-clause-stops g c = λ x e.
     c.in-Err.ensures.stops x c.args.rows e
-    (subst (λ ns. Stands c.args.checked.now c.args.order.now x c.args.rows ns c.operators.state) (first_and_rest c.operators.rest.now c.in-len1-up.len_at_least) (c.operators.invariant.stood x e))
+    (subst (λ ns. LeftToRun c.args.checked.now c.args.order.now x c.args.rows ns c.operators.state) (first_and_rest c.operators.rest.now c.in-len1-up.len_at_least) (c.operators.invariant.stood x e))
