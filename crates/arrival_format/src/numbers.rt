@@ -8,7 +8,7 @@ use spl_value::{Inputs, Items};
 use std::alloc::Global;
 
 // What comes after the first byte, where it is this one.
-fn behind(bytes: &[u8], first: u8) -> Option<&[u8]>
+fn rest_after(bytes: &[u8], first: u8) -> Option<&[u8]>
     ensures { MatchOption result ((rest : List ℕ) → bytes.now ≢ first ∷ rest)
         (λ rest. bytes.now ≡ first ∷ rest.now) }
 {
@@ -73,7 +73,7 @@ pub(crate) fn read_inputs(
 {
     let mut inputs = Items::new(alloc);
     let mut rest = bytes;
-    'inputs: while let Some(digits) = behind(rest, b' ') {
+    'inputs: while let Some(digits) = rest_after(rest, b' ') {
         let Some((input, left)) = first_number(digits, bound) else {
             return Err(ArrivalsAnswer::Bad);
         };
@@ -83,7 +83,7 @@ pub(crate) fn read_inputs(
     if inputs.is_empty() {
         return Err(ArrivalsAnswer::Bad);
     }
-    match behind(rest, b'\n') {
+    match rest_after(rest, b'\n') {
         Some(rest) => Ok((inputs, rest)),
         None => Err(ArrivalsAnswer::Bad),
     }

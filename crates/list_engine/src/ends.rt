@@ -13,7 +13,7 @@ use language_model::Checked;
 use spl_value::{Fault, Item, Items};
 
 /// The fault that ends a stream.
-fn fault_of(items: &[Item]) -> Option<Fault>
+fn fault_in(items: &[Item]) -> Option<Fault>
     ensures { result ≡ stream_fault items.now }
 {
     for item in items {
@@ -31,7 +31,7 @@ fn fault_of_stream(streams: &Items<Items<Item>>, stream: u32) -> Option<Fault>
     ensures { result ≡ stream_fault (rows_at streams.now stream) }
 {
     match streams.get(stream as usize) {
-        Some(items) => fault_of(items.as_slice()),
+        Some(items) => fault_in(items.as_slice()),
         None => None,
     }
 }

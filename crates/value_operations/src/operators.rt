@@ -50,7 +50,7 @@ fn binary_of(
 {
     match operator {
         BinaryCode::Integers(operator, kind) => {
-            on_integers(operator, kind, number(left), number(right))
+            on_integers(operator, kind, number_in(left), number_in(right))
         }
         BinaryCode::Join => join(alloc, left, right),
         _ => Ok(Value::Bool(are_related(operator, left, right))),
@@ -124,16 +124,16 @@ fn unary_of(alloc: Global, operator: UnaryCode, value: &Value) -> Result<Value, 
 {
     let exact = match operator {
         UnaryCode::Not => return Ok(Value::Bool(!truth_of(value))),
-        UnaryCode::Negate(kind) => wrap(kind, -number(value)),
-        UnaryCode::Complement(kind) => wrap(kind, -1 - number(value)),
-        UnaryCode::ToInteger(kind) => wrap(kind, number(value)),
+        UnaryCode::Negate(kind) => wrap(kind, -number_in(value)),
+        UnaryCode::Complement(kind) => wrap(kind, -1 - number_in(value)),
+        UnaryCode::ToInteger(kind) => wrap(kind, number_in(value)),
         UnaryCode::ToText => return to_text(alloc, value),
     };
     Ok(Value::Int(exact))
 }
 
 /// The number of an integer.
-fn number(value: &Value) -> i128
+fn number_in(value: &Value) -> i128
     requires { (kind : IntKind) × IsTrue (fits (T.Int kind) value.now) }
     ensures { value.now ≡ V.Int result }
 {

@@ -5,21 +5,21 @@ use Rattle.value_operations.proofs.Operating.{opposite_fits, negate_gives, compl
 use Rattle.value_operations.proofs.operators.unary_of.Goals as goal
 use Rattle.value_operations.proofs.operators.unary_of.Goals.{in-Negate, in-Complement, in-ToInteger}
 
-pub overflow_sub-number : goal.overflow_sub-number
-overflow_sub-number c = opposite_fits c.args.operator c.args.value.now c.number.result c.requires c.number.ensures
+pub overflow_sub-number_in : goal.overflow_sub-number_in
+overflow_sub-number_in c = opposite_fits c.args.operator c.args.value.now c.number_in.result c.requires c.number_in.ensures
 
 pub returns : goal.returns
 returns c =
     elim c.match-operator.branch [
       | in-Negate w ↦
-          negate_gives c.args.operator c.args.value.now w.number.result c.requires w.number.ensures w.in-Negate.kind w.wrap-exact.result w.in-Negate.is w.wrap-exact.ensures.value
+          negate_gives c.args.operator c.args.value.now w.number_in.result c.requires w.number_in.ensures w.in-Negate.kind w.wrap-exact.result w.in-Negate.is w.wrap-exact.ensures.value
           ∙ ap (λ (z : ℤ). Gives (V.Int z)) (sym w.exact-is)
       | in-Complement w ↦
-          complement_gives c.args.operator c.args.value.now w.number-in-Complement.result c.requires w.number-in-Complement.ensures w.in-Complement.kind
+          complement_gives c.args.operator c.args.value.now w.number_in-in-Complement.result c.requires w.number_in-in-Complement.ensures w.in-Complement.kind
           w.wrap-exact-in-Complement.result w.in-Complement.is w.wrap-exact-in-Complement.ensures.value
           ∙ ap (λ (z : ℤ). Gives (V.Int z)) (sym w.exact-is)
       | in-ToInteger w ↦
-          cast_gives c.args.operator c.args.value.now w.number-in-ToInteger.result c.requires w.number-in-ToInteger.ensures w.in-ToInteger.kind
+          cast_gives c.args.operator c.args.value.now w.number_in-in-ToInteger.result c.requires w.number_in-in-ToInteger.ensures w.in-ToInteger.kind
           w.wrap-exact-in-ToInteger.result w.in-ToInteger.is w.wrap-exact-in-ToInteger.ensures.value
           ∙ ap (λ (z : ℤ). Gives (V.Int z)) (sym w.exact-is)
     ]
