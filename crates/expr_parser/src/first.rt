@@ -23,7 +23,7 @@ fn is(token: &Token, symbol: Symbol) -> bool
 }
 
 /// The first token, where it is the symbol, and the tokens after it.
-pub fn after(ts: &[Token], symbol: Symbol) -> Option<(&Token, &[Token])>
+pub fn symbol_first(ts: &[Token], symbol: Symbol) -> Option<(&Token, &[Token])>
     ensures { MatchOption result (begins_with (is symbol) ts.now ≡ false)
         (λ found. Taken (is symbol) ts.now found.0.now found.1.now) }
 {
@@ -39,7 +39,7 @@ pub fn after(ts: &[Token], symbol: Symbol) -> Option<(&Token, &[Token])>
 pub fn pass<'t>(ts: &'t [Token], symbol: Symbol) -> Result<&'t [Token], Stop<'t>>
     ensures { Passes symbol ts.now result }
 {
-    match after(ts, symbol) {
+    match symbol_first(ts, symbol) {
         Some((_, rest)) => Ok(rest),
         None => Err(Stop::At(ts)),
     }

@@ -12,7 +12,7 @@ mod reading;
 mod stop;
 
 pub use answer::{ParsedExpr, SyntaxAnswer};
-pub use first::{after, name_first, pass, pass_name};
+pub use first::{name_first, pass, pass_name, symbol_first};
 pub use laws::expressions_law;
 pub use parse::{parse_expr, place_of};
 pub use parts::{Taken, read_elements, read_expression, read_items, read_steps};

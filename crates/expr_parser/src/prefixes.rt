@@ -1,7 +1,7 @@
 //! Prefix operators and casts in front of an operand.
 ghost use Rattle.expr_parser.specs.steps.Parts.{Fronts};
 
-use crate::first::{after, cast_first, pass, prefix_first};
+use crate::first::{cast_first, pass, prefix_first, symbol_first};
 use crate::stop::Stop;
 use spl_tree::{Prefixes, Symbol, Token};
 use spl_value::Items;
@@ -23,7 +23,7 @@ pub(crate) fn prefixes<'t>(
             at = behind;
             continue;
         }
-        let Some((open, behind)) = after(at, Symbol::LeftParen) else {
+        let Some((open, behind)) = symbol_first(at, Symbol::LeftParen) else {
             return Ok((all, None, at));
         };
         let Some((cast, behind)) = cast_first(behind, open.start) else {

@@ -8,7 +8,9 @@ ghost use Rattle.expr_parser.specs.steps.Parts.{Comes, StepsOn};
 ghost use Rattle.expr_parser.specs.Lines.{Whole, Rest, Climb, Chain, Prefixed, Primary, Group, Named, Elements, Brace, Entries, Fields, Steps, operand_rule, list_rule, choice_rule};
 ghost use Rattle.expr_parser.specs.Lines as lines;
 
-use crate::first::{after, literal, literal_first, name_first, operator_first, pass, pass_name};
+use crate::first::{
+    literal, literal_first, name_first, operator_first, pass, pass_name, symbol_first,
+};
 use crate::making;
 use crate::prefixes::prefixes;
 use crate::stop::{Read, Stop};
@@ -50,7 +52,7 @@ fn rest<'t>(
     ensures { Gives (Rest operand) ts.now result }
 {
     let (test, tall, behind) = climb(alloc, depth, 9, operand, height, ts)?;
-    match after(behind, Symbol::Question) {
+    match symbol_first(behind, Symbol::Question) {
         Some((_, behind)) => choice(alloc, depth, test, tall, behind),
         None => Ok((test, tall, behind)),
     }
@@ -164,10 +166,10 @@ fn primary<'t>(alloc: Global, depth: u32, ts: &'t [Token]) -> Read<'t, Expr>
         let name = Items::from_slice(alloc, name.as_slice())?;
         return named(alloc, depth, token.start, name, behind);
     }
-    if let Some((open, behind)) = after(ts, Symbol::LeftBracket) {
+    if let Some((open, behind)) = symbol_first(ts, Symbol::LeftBracket) {
         return list(alloc, depth, open.start, behind);
     }
-    match after(ts, Symbol::LeftBrace) {
+    match symbol_first(ts, Symbol::LeftBrace) {
         Some((open, behind)) => brace(alloc, depth, open.start, behind),
         None => Err(Stop::At(ts)),
     }
@@ -188,7 +190,7 @@ fn group<'t>(alloc: Global, depth: u32, at: u32, ts: &'t [Token]) -> Read<'t, Ex
 fn named<'t>(alloc: Global, depth: u32, at: u32, name: Name, ts: &'t [Token]) -> Read<'t, Expr>
     ensures { Gives (Named at name) ts.now result }
 {
-    match after(ts, Symbol::LeftParen) {
+    match symbol_first(ts, Symbol::LeftParen) {
         Some((_, behind)) => {
             let (arguments, height, behind) = elements(alloc, depth, Symbol::RightParen, behind)?;
             making::node(alloc, at, ExprKind::Call(name, arguments), height, behind)
@@ -219,7 +221,7 @@ pub(crate) fn elements<'t>(
 ) -> Read<'t, Exprs>
     ensures { Gives (Elements close) ts.now result }
 {
-    match after(ts, close) {
+    match symbol_first(ts, close) {
         Some((_, behind)) => Ok((Items::new(alloc), 0, behind)),
         None => items(alloc, depth, close, ts),
     }
@@ -242,7 +244,7 @@ pub(crate) fn items<'t>(
         let (item, tall, behind) = nested(alloc, depth, at)?;
         all.push(item)?;
         height = height.max(tall);
-        let Some((_, behind)) = after(behind, Symbol::Comma) else {
+        let Some((_, behind)) = symbol_first(behind, Symbol::Comma) else {
             let behind = pass(behind, close)?;
             return Ok((all, height, behind));
         };
@@ -265,12 +267,12 @@ fn name_alone(expr: Expr) -> Option<Placed<Name>>
 fn brace<'t>(alloc: Global, depth: u32, at: u32, ts: &'t [Token]) -> Read<'t, Expr>
     ensures { Gives (Brace at) ts.now result }
 {
-    if let Some((_, behind)) = after(ts, Symbol::RightBrace) {
+    if let Some((_, behind)) = symbol_first(ts, Symbol::RightBrace) {
         let expr = Placed::boxed(alloc, at, ExprKind::Map(Items::new(alloc)))?;
         return Ok((expr, 0, behind));
     }
     let (first, height, behind) = nested(alloc, depth, ts)?;
-    if let Some((_, behind)) = after(behind, Symbol::Colon) {
+    if let Some((_, behind)) = symbol_first(behind, Symbol::Colon) {
         return entries(alloc, depth, at, first, height, behind);
     }
     match name_alone(first) {
@@ -302,7 +304,7 @@ fn entries<'t>(
         let (value, tall, behind) = nested(alloc, depth, left)?;
         all.push((key, value))?;
         height = height.max(tall);
-        let Some((_, behind)) = after(behind, Symbol::Comma) else {
+        let Some((_, behind)) = symbol_first(behind, Symbol::Comma) else {
             let what = ExprKind::Map(all);
             return making::closed(alloc, at, what, Symbol::RightBrace, height, behind);
         };
@@ -332,7 +334,7 @@ fn fields<'t>(
         let (value, tall, behind) = nested(alloc, depth, left)?;
         all.push(Field { name, value })?;
         height = height.max(tall);
-        let Some((_, behind)) = after(behind, Symbol::Comma) else {
+        let Some((_, behind)) = symbol_first(behind, Symbol::Comma) else {
             let what = ExprKind::Tuple(all);
             return making::closed(alloc, at, what, Symbol::RightBrace, height, behind);
         };
@@ -372,11 +374,11 @@ pub(crate) fn steps<'t>(
 fn step<'t>(alloc: Global, depth: u32, ts: &'t [Token]) -> Read<'t, Option<Step<Expr>>>
     ensures { StepsOn ts.now result }
 {
-    if let Some((_, behind)) = after(ts, Symbol::Dot) {
+    if let Some((_, behind)) = symbol_first(ts, Symbol::Dot) {
         let (name, behind) = pass_name(alloc, behind)?;
         return Ok((Some(Step::Member(name)), 0, behind));
     }
-    if let Some((_, behind)) = after(ts, Symbol::LeftBracket) {
+    if let Some((_, behind)) = symbol_first(ts, Symbol::LeftBracket) {
         let (index, height, behind) = nested(alloc, depth, behind)?;
         let behind = pass(behind, Symbol::RightBracket)?;
         return Ok((Some(Step::Index(index)), height, behind));

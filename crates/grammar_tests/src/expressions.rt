@@ -1,8 +1,8 @@
 //! Expressions, and what of them other parts of a program have.
 use crate::programs::{MOST_TOKENS, refused};
 use expr_parser::{
-    ParsedExpr, Stop, Taken, after, name_first, parse_expr, pass, pass_name, read_elements,
-    read_expression, read_items, read_steps, too_deep,
+    ParsedExpr, Stop, Taken, name_first, parse_expr, pass, pass_name, read_elements,
+    read_expression, read_items, read_steps, symbol_first, too_deep,
 };
 use spl_lexer::lex;
 use spl_tree::{Expr, ExprKind, Exprs, Placed, Symbol, Token, TokenKind};
@@ -325,7 +325,7 @@ fn weighed(alloc: Global, ts: &[Token]) -> Result<String, AllocError> {
 }
 
 fn symbol_behind(alloc: Global, symbol: Symbol, ts: &[Token]) -> Result<String, AllocError> {
-    match after(ts, symbol) {
+    match symbol_first(ts, symbol) {
         Some((token, rest)) => format!(in alloc; "{}, {} behind", token.start, rest.len()),
         None => "none".to_string(alloc),
     }

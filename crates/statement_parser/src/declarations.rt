@@ -6,7 +6,7 @@ ghost use Rattle.statement_parser.specs.Lines as lines;
 use crate::first::word_first;
 use crate::sequence::{closed, expression_before};
 use crate::types::read_type;
-use expr_parser::{Taken, after, pass_name};
+use expr_parser::{Taken, pass_name, symbol_first};
 use spl_tree::{Declaration, Keyword, Placed, Symbol, Token, TypeExpr};
 use spl_value::Name;
 use std::alloc::Global;
@@ -50,7 +50,7 @@ pub(crate) fn valued<'t>(
 ) -> Taken<'t, Declaration>
     ensures { Gives (lines.Valued mutable kind name) ts.now result }
 {
-    let Some((_, behind)) = after(ts, Symbol::Assign) else {
+    let Some((_, behind)) = symbol_first(ts, Symbol::Assign) else {
         let declaration = Declaration {
             mutable,
             kind,

@@ -15,7 +15,9 @@ use crate::declarations::{declared, valued};
 use crate::first::{assignment_first, pass_word, word_first};
 use crate::sequence::{closed, expression_before, expression_between, name_before};
 use crate::types::{read_attribute, read_type};
-use expr_parser::{Stop, Taken, after, name_first, pass, pass_name, read_elements, read_steps};
+use expr_parser::{
+    Stop, Taken, name_first, pass, pass_name, read_elements, read_steps, symbol_first,
+};
 use spl_tree::{
     Attribute, Expr, ExprKind, Keyword, Placed, Stmt, StmtKind, Symbol, Token, TypeExpr, TypeKind,
 };
@@ -144,7 +146,7 @@ fn statement_made<'t>(alloc: Global, at: u32, what: StmtKind, ts: &'t [Token]) -
 fn returned<'t>(alloc: Global, at: u32, ts: &'t [Token]) -> Taken<'t, (Stmt, bool)>
     ensures { Comes (returned_rule at) ts.now result }
 {
-    if let Some((_, behind)) = after(ts, Symbol::Semicolon) {
+    if let Some((_, behind)) = symbol_first(ts, Symbol::Semicolon) {
         return statement_at(alloc, at, StmtKind::Return(None), true, behind);
     }
     let (value, behind) = expression_before(alloc, Symbol::Semicolon, ts)?;
@@ -187,7 +189,7 @@ fn begun<'t>(alloc: Global, at: u32, name: Name, ts: &'t [Token]) -> Taken<'t, S
         let (variable, behind) = pass_name(alloc, ts)?;
         return variable_begun(alloc, at, name, variable, behind);
     }
-    match after(ts, Symbol::LeftParen) {
+    match symbol_first(ts, Symbol::LeftParen) {
         Some((_, behind)) => called(alloc, at, name, behind),
         None => assigned(alloc, at, name, ts),
     }

@@ -7,7 +7,7 @@ ghost use Rattle.statement_parser.specs.Lines.{braces_rule, for_rule, last_branc
 
 use crate::first::word_first;
 use crate::simple::{condition, else_first, for_head, simple_statement, statement_at};
-use expr_parser::{Stop, Taken, after, pass};
+use expr_parser::{Stop, Taken, pass, symbol_first};
 use spl_tree::{Block, Expr, Keyword, Stmt, StmtKind, Symbol, Token};
 use spl_value::Items;
 use std::alloc::Global;
@@ -32,7 +32,7 @@ fn statements<'t>(alloc: Global, depth: u32, ts: &'t [Token]) -> Taken<'t, Block
     let mut all = Items::new(alloc);
     let mut at = ts;
     'statements: loop {
-        if let Some((_, behind)) = after(at, Symbol::RightBrace) {
+        if let Some((_, behind)) = symbol_first(at, Symbol::RightBrace) {
             return Ok((all, behind));
         }
         let ((one, _), behind) = statement(alloc, depth, at)?;
@@ -68,7 +68,7 @@ fn nested<'t>(alloc: Global, depth: u32, ts: &'t [Token]) -> Taken<'t, (Stmt, bo
 fn other<'t>(alloc: Global, depth: u32, ts: &'t [Token]) -> Taken<'t, (Stmt, bool)>
     ensures { Gives lines.Other ts.now result }
 {
-    if let Some((open, behind)) = after(ts, Symbol::LeftBrace) {
+    if let Some((open, behind)) = symbol_first(ts, Symbol::LeftBrace) {
         return braces(alloc, depth, open.start, behind);
     }
     if let Some((word, behind)) = word_first(ts, Keyword::While) {

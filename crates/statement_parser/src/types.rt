@@ -9,7 +9,7 @@ ghost use Rattle.statement_parser.specs.steps.Parts.{attribute_rule, named_attri
 
 use crate::first::{type_first, word_first};
 use crate::sequence::{closed, push_taken};
-use expr_parser::{Stop, Taken, after, name_first, pass, pass_name};
+use expr_parser::{Stop, Taken, name_first, pass, pass_name, symbol_first};
 use spl_tree::{
     Attribute, Attributes, Keyword, Placed, Shape, ShapeKind, Symbol, Token, TypeExpr, TypeKind,
 };
@@ -184,7 +184,7 @@ fn more_attributes<'t>(
     let mut all = first;
     let mut at = ts;
     'attributes: loop {
-        let Some((_, behind)) = after(at, Symbol::Comma) else {
+        let Some((_, behind)) = symbol_first(at, Symbol::Comma) else {
             return closed(all, close, at);
         };
         let behind = push_taken(&mut all, attribute(alloc, depth, behind))?;
@@ -196,7 +196,7 @@ fn more_attributes<'t>(
 pub fn function_parameters<'t>(alloc: Global, ts: &'t [Token]) -> Taken<'t, Attributes>
     ensures { Gives lines.FunctionParameters ts.now result }
 {
-    match after(ts, Symbol::RightParen) {
+    match symbol_first(ts, Symbol::RightParen) {
         Some((_, behind)) => Ok((Items::new(alloc), behind)),
         None => attributes(alloc, MOST_NESTED, Symbol::RightParen, ts),
     }

@@ -7,7 +7,7 @@ ghost use Rattle.statement_parser.specs.Lines as lines;
 
 use crate::declarations::declarations;
 use expr_parser::{
-    Taken, after, name_first, pass, pass_name, read_elements, read_expression, read_items,
+    Taken, name_first, pass, pass_name, read_elements, read_expression, read_items, symbol_first,
 };
 use spl_tree::{
     Clauses, Declaration, Expr, Exprs, Field, Fields, HandledEvent, Handler, Keyword, Logic,
@@ -24,7 +24,7 @@ type OutputClause = Option<Placed<Items<OutputAssignments>>>;
 pub(crate) fn end<'t>(alloc: Global, ts: &'t [Token]) -> Taken<'t, Clauses>
     ensures { Gives lines.End ts.now result }
 {
-    if let Some((_, behind)) = after(ts, Symbol::Semicolon) {
+    if let Some((_, behind)) = symbol_first(ts, Symbol::Semicolon) {
         let clauses = Clauses {
             logic: None,
             window: None,
@@ -105,7 +105,7 @@ fn state<'t>(alloc: Global, ts: &'t [Token]) -> Taken<'t, Items<Declaration>>
         return Ok((Items::new(alloc), ts));
     };
     let behind = pass(behind, Symbol::Colon)?;
-    if let Some((_, behind)) = after(behind, Symbol::LeftBrace) {
+    if let Some((_, behind)) = symbol_first(behind, Symbol::LeftBrace) {
         return declarations(alloc, behind);
     }
     let mut all = Items::new(alloc);
@@ -198,7 +198,7 @@ fn window_parts<'t>(alloc: Global, ts: &'t [Token]) -> Taken<'t, Items<WindowPar
     let mut at = ts;
     'parts: loop {
         let behind = push_taken(&mut all, window_part(alloc, at))?;
-        let Some((_, behind)) = after(behind, Symbol::Comma) else {
+        let Some((_, behind)) = symbol_first(behind, Symbol::Comma) else {
             return closed(all, Symbol::Semicolon, behind);
         };
         at = behind;
@@ -218,7 +218,7 @@ fn window_part<'t>(alloc: Global, ts: &'t [Token]) -> Taken<'t, WindowPart>
 fn part_arguments<'t>(alloc: Global, ts: &'t [Token]) -> Taken<'t, Option<Exprs>>
     ensures { Gives lines.PartArguments ts.now result }
 {
-    let Some((_, behind)) = after(ts, Symbol::LeftParen) else {
+    let Some((_, behind)) = symbol_first(ts, Symbol::LeftParen) else {
         return Ok((None, ts));
     };
     let (arguments, behind) = read_elements(alloc, Symbol::RightParen, behind)?;
@@ -311,7 +311,7 @@ fn assignments<'t>(alloc: Global, ts: &'t [Token]) -> Taken<'t, Fields>
     let mut at = ts;
     'assignments: loop {
         let behind = push_taken(&mut all, assignment(alloc, at))?;
-        let Some((_, behind)) = after(behind, Symbol::Comma) else {
+        let Some((_, behind)) = symbol_first(behind, Symbol::Comma) else {
             return closed(all, Symbol::Semicolon, behind);
         };
         at = behind;

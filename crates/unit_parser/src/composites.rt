@@ -7,7 +7,7 @@ ghost use Rattle.statement_parser.specs.Lines as lines;
 
 use crate::clauses::parameter_clause;
 use crate::invocations::{graph, stream};
-use expr_parser::{Taken, after, name_first, pass, pass_name};
+use expr_parser::{Taken, name_first, pass, pass_name, symbol_first};
 use spl_tree::{
     Composite, CompositeParameter, HeadPort, Invocation, Keyword, OutputStream, Parameter, Placed,
     Symbol, Token, TypeDefinition, TypeExpr,
@@ -87,7 +87,7 @@ fn graph_and_config<'t>(
 fn head_ports<'t>(alloc: Global, ts: &'t [Token]) -> Taken<'t, Ports>
     ensures { Gives lines.HeadPorts ts.now result }
 {
-    let Some((_, behind)) = after(ts, Symbol::LeftParen) else {
+    let Some((_, behind)) = symbol_first(ts, Symbol::LeftParen) else {
         return Ok(((Items::new(alloc), Items::new(alloc)), ts));
     };
     match word_first(behind, Keyword::Output) {
@@ -113,7 +113,7 @@ fn both_ports<'t>(alloc: Global, word: Keyword, ts: &'t [Token]) -> Taken<'t, Po
 fn other_ports<'t>(alloc: Global, word: Keyword, ts: &'t [Token]) -> Taken<'t, Items<HeadPort>>
     ensures { Comes (other_ports_rule word) ts.now result }
 {
-    let Some((_, behind)) = after(ts, Symbol::Semicolon) else {
+    let Some((_, behind)) = symbol_first(ts, Symbol::Semicolon) else {
         return closed(Items::new(alloc), Symbol::RightParen, ts);
     };
     let behind = pass_word(behind, word)?;
@@ -129,7 +129,7 @@ fn ports<'t>(alloc: Global, ts: &'t [Token]) -> Taken<'t, Items<HeadPort>>
     let mut at = ts;
     'ports: loop {
         let behind = push_taken(&mut all, port(alloc, at))?;
-        let Some((_, after_comma)) = after(behind, Symbol::Comma) else {
+        let Some((_, after_comma)) = symbol_first(behind, Symbol::Comma) else {
             return Ok((all, behind));
         };
         at = after_comma;
@@ -196,7 +196,7 @@ fn defaulted<'t>(
 ) -> Taken<'t, CompositeParameter>
     ensures { Gives (lines.Default kind name) ts.now result }
 {
-    let Some((_, behind)) = after(ts, Symbol::Colon) else {
+    let Some((_, behind)) = symbol_first(ts, Symbol::Colon) else {
         let default = None;
         let one = CompositeParameter {
             kind,

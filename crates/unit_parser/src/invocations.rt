@@ -6,7 +6,7 @@ ghost use Rattle.unit_parser.specs.steps.GivesParts.{operator_and_inputs, listed
 ghost use Rattle.statement_parser.specs.Lines as lines;
 
 use crate::clauses::end;
-use expr_parser::{Stop, Taken, after, pass, pass_name};
+use expr_parser::{Stop, Taken, pass, pass_name, symbol_first};
 use spl_tree::{InputPort, Invocation, Keyword, OutputStream, Placed, Symbol, Token};
 use spl_value::{Items, Name};
 use statement_parser::{closed, name_before, pass_word, push_taken, shape, word_first};
@@ -40,7 +40,7 @@ fn invocation<'t>(alloc: Global, ts: &'t [Token]) -> Taken<'t, Option<Invocation
         let (one, behind) = invoked(alloc, word.start, head, behind)?;
         return Ok((Some(one), behind));
     }
-    let Some((open, behind)) = after(ts, Symbol::LeftParen) else {
+    let Some((open, behind)) = symbol_first(ts, Symbol::LeftParen) else {
         return Ok((None, ts));
     };
     let (head, behind) = list_head(alloc, behind)?;
@@ -62,7 +62,7 @@ fn stream_head<'t>(alloc: Global, ts: &'t [Token]) -> Taken<'t, Head>
 fn list_head<'t>(alloc: Global, ts: &'t [Token]) -> Taken<'t, Head>
     ensures { Gives lines.ListHead ts.now result }
 {
-    if let Some((_, behind)) = after(ts, Symbol::RightParen) {
+    if let Some((_, behind)) = symbol_first(ts, Symbol::RightParen) {
         let behind = pass_word(behind, Keyword::As)?;
         let (name, behind) = pass_name(alloc, behind)?;
         return Ok(((Items::new(alloc), Some(name)), behind));
@@ -90,7 +90,7 @@ fn streams<'t>(alloc: Global, ts: &'t [Token]) -> Taken<'t, Items<OutputStream>>
     let mut at = ts;
     'streams: loop {
         let behind = push_taken(&mut all, listed_stream(alloc, at))?;
-        let Some((_, behind)) = after(behind, Symbol::Semicolon) else {
+        let Some((_, behind)) = symbol_first(behind, Symbol::Semicolon) else {
             return closed(all, Symbol::RightParen, behind);
         };
         at = behind;
@@ -151,7 +151,7 @@ fn operator_and_inputs<'t>(
 fn inputs<'t>(alloc: Global, ts: &'t [Token]) -> Taken<'t, Items<InputPort>>
     ensures { Gives lines.Inputs ts.now result }
 {
-    match after(ts, Symbol::RightParen) {
+    match symbol_first(ts, Symbol::RightParen) {
         Some((_, behind)) => Ok((Items::new(alloc), behind)),
         None => more_inputs(alloc, ts),
     }
@@ -165,7 +165,7 @@ fn more_inputs<'t>(alloc: Global, ts: &'t [Token]) -> Taken<'t, Items<InputPort>
     let mut at = ts;
     'inputs: loop {
         let behind = push_taken(&mut all, input_port(alloc, at))?;
-        let Some((_, behind)) = after(behind, Symbol::Semicolon) else {
+        let Some((_, behind)) = symbol_first(behind, Symbol::Semicolon) else {
             return closed(all, Symbol::RightParen, behind);
         };
         at = behind;
@@ -189,7 +189,7 @@ fn input_streams<'t>(alloc: Global, ts: &'t [Token]) -> Taken<'t, Items<Placed<N
     let mut at = ts;
     'streams: loop {
         let behind = push_taken(&mut all, pass_name(alloc, at))?;
-        let Some((_, after_comma)) = after(behind, Symbol::Comma) else {
+        let Some((_, after_comma)) = symbol_first(behind, Symbol::Comma) else {
             return Ok((all, behind));
         };
         at = after_comma;

@@ -7,7 +7,7 @@ ghost use Rattle.unit_parser.specs.steps.GivesParts.{signature};
 ghost use Rattle.statement_parser.specs.Lines as lines;
 
 use crate::composites::{composite, type_definition};
-use expr_parser::{Stop, Taken, after, pass, pass_name};
+use expr_parser::{Stop, Taken, pass, pass_name, symbol_first};
 use spl_tree::{
     Attributes, Definition, FunctionDefinition, Keyword, Placed, Symbol, Token, TokenKind,
     TypeExpr, Unit,
@@ -36,7 +36,7 @@ fn namespace<'t>(alloc: Global, ts: &'t [Token]) -> Result<&'t [Token], Stop<'t>
     let mut at = ts;
     'names: loop {
         let (_, behind) = pass_name(alloc, at)?;
-        let Some((_, behind)) = after(behind, Symbol::Dot) else {
+        let Some((_, behind)) = symbol_first(behind, Symbol::Dot) else {
             return pass(behind, Symbol::Semicolon);
         };
         at = behind;

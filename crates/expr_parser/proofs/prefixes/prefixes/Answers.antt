@@ -6,12 +6,12 @@ use Rattle.expr_parser.proofs.Front.{prefix_on, primary_on, group_on, cast_on, c
 use Rattle.expr_parser.proofs.Derive.{exit}
 use Rattle.expr_parser.proofs.prefixes.prefixes.Goals as goal
 
-pub returns-in_default-after : goal.returns-in_default-after
-returns-in_default-after c o r = c.prefixes.invariant o (primary_on c.in_default.ensures c.in_default-after.ensures o r)
+pub returns-in_default-symbol_first : goal.returns-in_default-symbol_first
+returns-in_default-symbol_first c o r = c.prefixes.invariant o (primary_on c.in_default.ensures c.in_default-symbol_first.ensures o r)
 
 pub returns-in_default-cast_first : goal.returns-in_default-cast_first
 returns-in_default-cast_first c o r =
-    c.prefixes.invariant o (group_on c.in_default.ensures c.in-Some-after.ensures c.in_default-cast_first.ensures o r)
+    c.prefixes.invariant o (group_on c.in_default.ensures c.in-Some-symbol_first.ensures c.in_default-cast_first.ensures o r)
 
 pub prefixes-preserved-in-Some : goal.prefixes-preserved-in-Some
 prefixes-preserved-in-Some c o r =
@@ -19,10 +19,10 @@ prefixes-preserved-in-Some c o r =
 
 pub prefixes-preserved : goal.prefixes-preserved
 prefixes-preserved c o r =
-    c.prefixes.invariant o (cast_on c.in_default.ensures c.in-Some-after.ensures c.in-Some-cast_first.ensures c.in_ok-at.ensures.0 c.in_ok-at.at.now c.in_ok-at.ensures.1 o
+    c.prefixes.invariant o (cast_on c.in_default.ensures c.in-Some-symbol_first.ensures c.in-Some-cast_first.ensures c.in_ok-at.ensures.0 c.in_ok-at.at.now c.in_ok-at.ensures.1 o
     (subst (λ ps. Reads rule (Prefixed ps) c.in_ok-at.at.now o) c.in_ok-push-2.ensures.ok r))
 
 pub returns-in_err-at : goal.returns-in_err-at
 returns-in_err-at c =
     exit (Fronts c.args.ts.now) c.from_residual-in_err-at.result c.in_err-at.field-0.0 c.from_residual-in_err-at.ensures.1
-    (cast_fails c.in_default.ensures c.in-Some-after.ensures c.args.ts.now c.prefixes.invariant c.in-Some-cast_first.ensures c.in_err-at.field-0.0 c.in_err-at.ensures)
+    (cast_fails c.in_default.ensures c.in-Some-symbol_first.ensures c.args.ts.now c.prefixes.invariant c.in-Some-cast_first.ensures c.in_err-at.field-0.0 c.in_err-at.ensures)

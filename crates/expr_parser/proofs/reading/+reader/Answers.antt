@@ -142,17 +142,17 @@ pub primary-returns-in-Some-name_first : goal.primary-returns-in-Some-name_first
 primary-returns-in-Some-name_first t c =
     primary_name c.args.ts.now c.in_default.ensures c.in-Some-name_first.token.now _ c.in-Some-name_first.behind.now c.named.result c.in-Some-name_first.ensures.0 (c.in_ok-name.ensures ∙ c.as_slice.ensures ∙ c.in-Some-name_first.ensures.1) c.named.ensures
 
-pub primary-returns-in-Some-after : goal.primary-returns-in-Some-after
-primary-returns-in-Some-after t c =
-    primary_list c.args.ts.now c.in_default.ensures c.in_default-name_first.ensures c.in-Some-after.open.now c.in-Some-after.behind.now c.list.result c.in-Some-after.ensures c.list.ensures
+pub primary-returns-in-Some-symbol_first : goal.primary-returns-in-Some-symbol_first
+primary-returns-in-Some-symbol_first t c =
+    primary_list c.args.ts.now c.in_default.ensures c.in_default-name_first.ensures c.in-Some-symbol_first.open.now c.in-Some-symbol_first.behind.now c.list.result c.in-Some-symbol_first.ensures c.list.ensures
 
-pub primary-returns-in-Some-after-2 : goal.primary-returns-in-Some-after-2
-primary-returns-in-Some-after-2 t c =
-    primary_brace c.args.ts.now c.in_default.ensures c.in_default-name_first.ensures c.in_default-after.ensures c.in-Some-after-2.open.now c.in-Some-after-2.behind.now c.brace.result c.in-Some-after-2.ensures c.brace.ensures
+pub primary-returns-in-Some-symbol_first-2 : goal.primary-returns-in-Some-symbol_first-2
+primary-returns-in-Some-symbol_first-2 t c =
+    primary_brace c.args.ts.now c.in_default.ensures c.in_default-name_first.ensures c.in_default-symbol_first.ensures c.in-Some-symbol_first-2.open.now c.in-Some-symbol_first-2.behind.now c.brace.result c.in-Some-symbol_first-2.ensures c.brace.ensures
 
 pub primary-returns-in-None : goal.primary-returns-in-None
 primary-returns-in-None t c =
-    primary_stops c.args.ts.now c.in_default.ensures c.in_default-name_first.ensures c.in_default-after.ensures c.in-None.ensures
+    primary_stops c.args.ts.now c.in_default.ensures c.in_default-name_first.ensures c.in_default-symbol_first.ensures c.in-None.ensures
 
 pub group-returns-in_err-inner : goal.group-returns-in_err-inner
 group-returns-in_err-inner t c =
@@ -237,9 +237,9 @@ brace-returns-in_err-first t c =
     exit (Gives (Brace c.args.at) c.args.ts.now) c.from_residual-in_err-first.result c.in_err-first.field-0.0 c.from_residual-in_err-first.ensures.1
     (brace_fails c.args.at c.args.ts.now c.in_default.ensures c.in_err-first.field-0.0 c.in_err-first.ensures)
 
-pub brace-returns-in-Some-after : goal.brace-returns-in-Some-after
-brace-returns-in-Some-after t c =
-    brace_entries c.args.at c.args.ts.now c.in_default.ensures c.in_ok-first.first c.in_ok-first.behind.now c.in_ok-first.ensures c.in-Some-after.field-0-0.now c.in-Some-after.behind.now c.entries.result c.in-Some-after.ensures c.entries.ensures
+pub brace-returns-in-Some-symbol_first : goal.brace-returns-in-Some-symbol_first
+brace-returns-in-Some-symbol_first t c =
+    brace_entries c.args.at c.args.ts.now c.in_default.ensures c.in_ok-first.first c.in_ok-first.behind.now c.in_ok-first.ensures c.in-Some-symbol_first.field-0-0.now c.in-Some-symbol_first.behind.now c.entries.result c.in-Some-symbol_first.ensures c.entries.ensures
 
 pub brace-returns-in_err-behind-in-Some-name_alone : goal.brace-returns-in_err-behind-in-Some-name_alone
 brace-returns-in_err-behind-in-Some-name_alone t c =
@@ -247,18 +247,18 @@ brace-returns-in_err-behind-in-Some-name_alone t c =
     exit (Gives (Brace c.args.at) c.args.ts.now) c.from_residual-in_err-behind-in-Some-name_alone.result c.in_err-behind-in-Some-name_alone.field-0.0 c.from_residual-in_err-behind-in-Some-name_alone.ensures.1
     (name_stops c.args.at c.args.ts.now c.in_default.ensures (placed name.at (X.Name name.what)) c.in_ok-first.behind.now
     (subst (λ e. Reads rule Whole c.args.ts.now (Took e c.in_ok-first.behind.now)) c.in-Some-name_alone.ensures c.in_ok-first.ensures)
-    c.in_default-after.ensures name.what refl c.in_err-behind-in-Some-name_alone.field-0.0 c.in_err-behind-in-Some-name_alone.ensures)
+    c.in_default-symbol_first.ensures name.what refl c.in_err-behind-in-Some-name_alone.field-0.0 c.in_err-behind-in-Some-name_alone.ensures)
 
 pub brace-returns-in_ok-behind-in-Some-name_alone : goal.brace-returns-in_ok-behind-in-Some-name_alone
 brace-returns-in_ok-behind-in-Some-name_alone t c =
     let name = c.in-Some-name_alone.name in
     brace_fields c.args.at c.args.ts.now c.in_default.ensures (placed name.at (X.Name name.what)) c.in_ok-first.behind.now
     (subst (λ e. Reads rule Whole c.args.ts.now (Took e c.in_ok-first.behind.now)) c.in-Some-name_alone.ensures c.in_ok-first.ensures)
-    c.in_default-after.ensures name.what refl c.in_ok-behind-in-Some-name_alone.behind c.fields.result c.in_ok-behind-in-Some-name_alone.ensures c.fields.ensures
+    c.in_default-symbol_first.ensures name.what refl c.in_ok-behind-in-Some-name_alone.behind c.fields.result c.in_ok-behind-in-Some-name_alone.ensures c.fields.ensures
 
 pub brace-returns-in-None : goal.brace-returns-in-None
 brace-returns-in-None t c =
-    brace_stops c.args.at c.args.ts.now c.in_default.ensures c.in_ok-first.first c.in_ok-first.behind.now c.in_ok-first.ensures c.in_default-after.ensures c.in-None.ensures c.in_ok-first.behind refl
+    brace_stops c.args.at c.args.ts.now c.in_default.ensures c.in_ok-first.first c.in_ok-first.behind.now c.in_ok-first.ensures c.in_default-symbol_first.ensures c.in-None.ensures c.in_ok-first.behind refl
 
 pub entries-entries-init : goal.entries-entries-init
 entries-entries-init t c =
@@ -370,17 +370,17 @@ step-returns-in-Some t c =
 pub step-returns-in_err-index : goal.step-returns-in_err-index
 step-returns-in_err-index t c =
     exit (StepsOn c.args.ts.now) c.from_residual-in_err-index.result c.in_err-index.field-0.0 c.from_residual-in_err-index.ensures.1
-    (index_fails c.args.ts.now c.in-Some-after.field-0-0.now c.in-Some-after.behind.now c.in_default.ensures c.in-Some-after.ensures c.in_err-index.field-0.0 c.in_err-index.ensures)
+    (index_fails c.args.ts.now c.in-Some-symbol_first.field-0-0.now c.in-Some-symbol_first.behind.now c.in_default.ensures c.in-Some-symbol_first.ensures c.in_err-index.field-0.0 c.in_err-index.ensures)
 
 pub step-returns-in_err-behind : goal.step-returns-in_err-behind
 step-returns-in_err-behind t c =
     exit (StepsOn c.args.ts.now) c.from_residual-in_err-behind.result c.in_err-behind.field-0.0 c.from_residual-in_err-behind.ensures.1
-    (index_stops c.args.ts.now c.in-Some-after.field-0-0.now c.in-Some-after.behind.now c.in_default.ensures c.in-Some-after.ensures c.in_ok-index.index c.in_ok-index.behind.now c.in_ok-index.ensures c.in_err-behind.field-0.0 c.in_err-behind.ensures)
+    (index_stops c.args.ts.now c.in-Some-symbol_first.field-0-0.now c.in-Some-symbol_first.behind.now c.in_default.ensures c.in-Some-symbol_first.ensures c.in_ok-index.index c.in_ok-index.behind.now c.in_ok-index.ensures c.in_err-behind.field-0.0 c.in_err-behind.ensures)
 
-pub step-returns-in-Some-after : goal.step-returns-in-Some-after
-step-returns-in-Some-after t c =
-    index_found c.args.ts.now c.in-Some-after.field-0-0.now c.in-Some-after.behind.now c.in_default.ensures c.in-Some-after.ensures c.in_ok-index.index c.in_ok-index.behind.now c.in_ok-index.ensures c.in_ok-behind.behind c.in_ok-behind.ensures
+pub step-returns-in-Some-symbol_first : goal.step-returns-in-Some-symbol_first
+step-returns-in-Some-symbol_first t c =
+    index_found c.args.ts.now c.in-Some-symbol_first.field-0-0.now c.in-Some-symbol_first.behind.now c.in_default.ensures c.in-Some-symbol_first.ensures c.in_ok-index.index c.in_ok-index.behind.now c.in_ok-index.ensures c.in_ok-behind.behind c.in_ok-behind.ensures
 
 pub step-returns : goal.step-returns
 step-returns t c =
-    (c.in_default.ensures, c.in_default-after.ensures, refl)
+    (c.in_default.ensures, c.in_default-symbol_first.ensures, refl)

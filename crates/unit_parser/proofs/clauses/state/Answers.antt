@@ -19,18 +19,18 @@ returns-in_err-behind c =
     (λ o q. reads (taken c.in-Some.ensures q))
     (pass_fails _ S.Colon _ _ c.in_err-behind.ensures)
 
-pub returns-in-Some-after : goal.returns-in-Some-after
+pub returns-in-Some-symbol_first : goal.returns-in-Some-symbol_first
 unfolding lines.rule
-returns-in-Some-after c =
-    goes lines.State c.args.ts.now c.in-Some-after.behind.now _ c.declarations.result (λ o q. reads (taken c.in-Some.ensures (passed S.Colon c.in_ok-behind.ensures
-    (taken c.in-Some-after.ensures q))))
+returns-in-Some-symbol_first c =
+    goes lines.State c.args.ts.now c.in-Some-symbol_first.behind.now _ c.declarations.result (λ o q. reads (taken c.in-Some.ensures (passed S.Colon c.in_ok-behind.ensures
+    (taken c.in-Some-symbol_first.ensures q))))
     (tail (lines.Declarations []) _ c.declarations.result c.declarations.ensures)
 
 pub returns-in_err-behind-2 : goal.returns-in_err-behind-2
 unfolding lines.rule
 returns-in_err-behind-2 c =
     fails lines.State c.args.ts.now c.in_ok-behind.behind.now _ c.from_residual-in_err-behind-2.result c.in_err-behind-2.field-0.0 c.from_residual-in_err-behind-2.ensures.1
-    (λ o q. reads (taken c.in-Some.ensures (passed S.Colon c.in_ok-behind.ensures (skipped c.in_default-after.ensures q))))
+    (λ o q. reads (taken c.in-Some.ensures (passed S.Colon c.in_ok-behind.ensures (skipped c.in_default-symbol_first.ensures q))))
     (line_fails _ lines.Declare (λ d. done (d ∷ [])) _
     (pushed_fails (Reads lines.rule lines.Declare c.in_ok-behind.behind.now) _ _ c.declaration.result _ c.declaration.ensures c.in_err-behind-2.ensures))
 
@@ -39,4 +39,4 @@ unfolding lines.rule
 returns c =
     let next = pushed (Reads lines.rule lines.Declare c.in_ok-behind.behind.now) _ _ c.declaration.result _ c.declaration.ensures c.in_ok-behind-2.ensures in
     let one = next.is ∙ ap (λ ds. ds ++ next.one ∷ []) c.new-all.ensures in
-    reads (taken c.in-Some.ensures (passed S.Colon c.in_ok-behind.ensures (skipped c.in_default-after.ensures (line_read next.said (made one)))))
+    reads (taken c.in-Some.ensures (passed S.Colon c.in_ok-behind.ensures (skipped c.in_default-symbol_first.ensures (line_read next.said (made one)))))

@@ -57,9 +57,9 @@ pub returns-in_err-head-2 : goal.returns-in_err-head-2
 unfolding lines.rule
 returns-in_err-head-2 c =
     exit (InvocationsOn c.args.ts.now) c.from_residual-in_err-head-2.result c.in_err-head-2.field-0.0 c.from_residual-in_err-head-2.ensures.1
-    (stops c.args.ts.now c.in-Some-after.behind.now
-    (λ xs. call lines.ListHead (head_behind c.in-Some-after.open.now.start xs)) c.in_err-head-2.field-0.0
-    (λ xs o q. reads (skipped c.in_default.ensures (taken c.in-Some-after.ensures q)))
+    (stops c.args.ts.now c.in-Some-symbol_first.behind.now
+    (λ xs. call lines.ListHead (head_behind c.in-Some-symbol_first.open.now.start xs)) c.in_err-head-2.field-0.0
+    (λ xs o q. reads (skipped c.in_default.ensures (taken c.in-Some-symbol_first.ensures q)))
     (λ xs. line_fails _ lines.ListHead _ _ c.in_err-head-2.ensures))
 
 pub returns-in_err-one-2 : goal.returns-in_err-one-2
@@ -67,18 +67,18 @@ unfolding lines.rule
 returns-in_err-one-2 c =
     exit (InvocationsOn c.args.ts.now) c.from_residual-in_err-one-2.result c.in_err-one-2.field-0.0 c.from_residual-in_err-one-2.ensures.1
     (stops c.args.ts.now c.in_ok-head-2.behind.now
-    (λ xs. head_behind c.in-Some-after.open.now.start xs c.in_ok-head-2.head) c.in_err-one-2.field-0.0
-    (λ xs o q. reads (skipped c.in_default.ensures (taken c.in-Some-after.ensures (line_read c.in_ok-head-2.ensures q))))
-    (λ xs. line_fails _ (lines.Invoked c.in-Some-after.open.now.start c.in_ok-head-2.head.0 c.in_ok-head-2.head.1) _ _ c.in_err-one-2.ensures))
+    (λ xs. head_behind c.in-Some-symbol_first.open.now.start xs c.in_ok-head-2.head) c.in_err-one-2.field-0.0
+    (λ xs o q. reads (skipped c.in_default.ensures (taken c.in-Some-symbol_first.ensures (line_read c.in_ok-head-2.ensures q))))
+    (λ xs. line_fails _ (lines.Invoked c.in-Some-symbol_first.open.now.start c.in_ok-head-2.head.0 c.in_ok-head-2.head.1) _ _ c.in_err-one-2.ensures))
 
 pub returns : goal.returns
 unfolding lines.rule
 returns c =
-    let taken_first = taken_shrinks c.in-Some-after.ensures in
+    let taken_first = taken_shrinks c.in-Some-symbol_first.ensures in
     let head_read = reads_shrinks c.in_ok-head-2.ensures in
     let one_read = reads_shrinks c.in_ok-one-2.ensures in
-    (omega arith, λ xs o r. reads (skipped c.in_default.ensures (taken c.in-Some-after.ensures (line_read c.in_ok-head-2.ensures (line_read c.in_ok-one-2.ensures (runs_last r))))))
+    (omega arith, λ xs o r. reads (skipped c.in_default.ensures (taken c.in-Some-symbol_first.ensures (line_read c.in_ok-head-2.ensures (line_read c.in_ok-one-2.ensures (runs_last r))))))
 
-pub returns-in_default-after : goal.returns-in_default-after
+pub returns-in_default-symbol_first : goal.returns-in_default-symbol_first
 unfolding lines.rule
-returns-in_default-after c = λ xs. reads (skipped c.in_default.ensures (skipped c.in_default-after.ensures finished))
+returns-in_default-symbol_first c = λ xs. reads (skipped c.in_default.ensures (skipped c.in_default-symbol_first.ensures finished))
