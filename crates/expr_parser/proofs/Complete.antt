@@ -15,7 +15,7 @@ use Rattle.spl_tree.specs.Operators.{level, prefix_symbol, prefix_of, is_symbol}
 use Rattle.spl_tree.specs.Trees.{Expr, Prefix, placed}
 use Rattle.spl_tree.specs.steps.Grammar.{Is, Names, Literal, dollar, number, text, yes, no, Prefixes, no_prefixes, operator, cast, Primary, literal, name, call, group, list, empty_map, map, tuple, Elements, no_elements, elements, Items, first_item, next_item, Entries, first_entry, next_entry, Fields, first_field, next_field, Steps, no_steps, member, index, Operand, primary, select, Unary, operand, prefixed, At, unary, tighter, binary, Spells, plain, conditional}
 use Rattle.expr_parser.specs.Rules as rules
-use Rattle.expr_parser.specs.Rules.{done, stop, look, Answer, Took, RunsTo, Reads}
+use Rattle.expr_parser.specs.Rules.{done, stop, look, RuleResult, Took, RunsTo, Reads}
 use Rattle.expr_parser.proofs.RuleLaws.{line, runs_done, runs_take, runs_skip, runs_call}
 use Rattle.expr_parser.specs.Taken.{begins_with}
 use Rattle.expr_parser.specs.Lines as lines
@@ -99,7 +99,7 @@ items_opens (next_item es e t a b ds comma d) rest = rw (append_assoc a (t ∷ b
 -- Steps of a reading
 
 -- how a look at the first token goes
-module _ {A : Type 0} {p : Token → Bool} {f : Token → R A} {d : R A} {o : Answer A} where
+module _ {A : Type 0} {p : Token → Bool} {f : Token → R A} {d : R A} {o : RuleResult A} where
   -- the first token passes
   pub takes : {t : Token} {ts : List Token} → p t ≡ true → RunsTo rule (f t) ts o → RunsTo rule (look p f d) (t ∷ ts) o
   takes {t} {ts} passes r = runs_take (t ∷ ts) t ts refl passes r

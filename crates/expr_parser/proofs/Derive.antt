@@ -8,7 +8,7 @@ use Rattle.spl_tree.specs.declared.token.Token.{Token}
 use Rattle.spl_tree.specs.Trees.{Expr}
 use Rattle.expr_parser.specs.declared.stop.Stop.{Stop}
 use Rattle.expr_parser.specs.declared.stop.Stop.TheVariants as S
-use Rattle.expr_parser.specs.Rules.{done, stop, look, call, Answer, Took, Refused, RunsTo, Reads}
+use Rattle.expr_parser.specs.Rules.{done, stop, look, call, RuleResult, Took, Refused, RunsTo, Reads}
 use Rattle.expr_parser.proofs.RuleLaws.{line, runs_done, runs_stop, runs_take, runs_skip, runs_call, runs_fail, runs_last}
 use Rattle.expr_parser.specs.Taken.{begins_with, Taken}
 use Rattle.expr_parser.specs.Lines.{Line, Value, rule, R, is, expect}
@@ -20,7 +20,7 @@ pub exit : {A E : Type 0} (P : Result A E → Type 0) (r : Result A E) (e : E) �
 exit P r e h q = let p = err_from_is_err_and r h in subst P (sym (p.1 ∙ ap Err p.2)) q
 
 -- what is said of an answer, where one thing follows from another
-pub says_on : {A : Type 0} {P Q : Answer A → Type 0} → ((o : Answer A) → P o → Q o) → (res : Answered A) → Says P res → Says Q res
+pub says_on : {A : Type 0} {P Q : RuleResult A → Type 0} → ((o : RuleResult A) → P o → Q o) → (res : Answered A) → Says P res → Says Q res
 says_on on (Ok found) said = on (Took found.0 found.2.now) said
 says_on on (Err (S.At rest)) said = on (Refused rest.now) said
 says_on on (Err S.Memory) said = tt

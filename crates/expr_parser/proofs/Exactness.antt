@@ -2,7 +2,7 @@
 use Rattle.std.proofs.Common.{◌≡◌, ◌∙◌, ℕ, ◌+◌, List, [], ◌∷◌, ◌++◌, refl, sym, subst, arith, append_assoc, append-nil, inl, inr}
 use Rattle.std.proofs.lemmas.List.{append_cancel_right}
 use Rattle.spl_tree.specs.declared.token.Token.{Token}
-use Rattle.expr_parser.specs.Rules.{Rule, Answer, Took, Refused, Spent, read, Reads}
+use Rattle.expr_parser.specs.Rules.{Rule, RuleResult, Took, Refused, Spent, read, Reads}
 use Rattle.expr_parser.proofs.RuleLaws.{Settled, read_more, reads_one}
 use Rattle.expr_parser.proofs.Locality.{rest_of, leaving, Keeps, leaves, keeps}
 use Rattle.spl_tree.specs.Fronts.{Starts, Longest, IsPhrase, IsUnexpected}
@@ -18,14 +18,14 @@ module _ {Line : Type 0} {Value : Line → Type 0} (rule : (x : Line) → Rule L
   one v w a s t = let both : Took v [] ≡ Took w [] = reads_one (complete v a s) (complete w a t) tt tt in cc
 
   -- what spells a phrase is not read with a token left
-  no_token_left : (a : List Token) (v : Value whole) (t : Token) (us : List Token) (o : Answer (Value whole)) → Settled o
+  no_token_left : (a : List Token) (v : Value whole) (t : Token) (us : List Token) (o : RuleResult (Value whole)) → Settled o
       → Spells v a → Reads rule whole a (leaving o (t ∷ us)) → ⊥
   no_token_left a v t us (Took w rest) settled s r = let both : Took v [] ≡ Took w (t ∷ us) = reads_one (complete v a s) r tt tt in cc
   no_token_left a v t us (Refused rest) settled s r = let both : Took v [] ≡ Refused (t ∷ us) = reads_one (complete v a s) r tt tt in cc
   no_token_left a v t us Spent settled s r = absurd settled
 
   -- what is taken, or passed before a refusal, is the longest front that starts a phrase
-  longest : (ts front : List Token) (o : Answer (Value whole)) → Settled o → Reads rule whole ts o → ts ≡ front ++ rest_of o → Starts Spells front
+  longest : (ts front : List Token) (o : RuleResult (Value whole)) → Settled o → Reads rule whole ts o → ts ≡ front ++ rest_of o → Starts Spells front
       → Longest Spells ts front (rest_of o)
   longest ts front o settled r splits starts = record { splits = splits; starts = starts; stops = stops }
     where

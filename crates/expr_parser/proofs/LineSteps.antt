@@ -14,7 +14,7 @@ use Rattle.spl_tree.specs.declared.expression.BinaryOperator.{BinaryOperator}
 use Rattle.spl_tree.specs.Trees.{Expr, Prefix, placed}
 use Rattle.expr_parser.specs.declared.stop.Stop.{Stop}
 use Rattle.expr_parser.specs.declared.stop.Stop.TheVariants as S
-use Rattle.expr_parser.specs.Rules.{done, stop, look, call, Answer, Took, Refused, RunsTo, Reads}
+use Rattle.expr_parser.specs.Rules.{done, stop, look, call, RuleResult, Took, Refused, RunsTo, Reads}
 use Rattle.expr_parser.proofs.RuleLaws.{line, runs_done, runs_stop, runs_take, runs_skip, runs_call, runs_fail, runs_last}
 use Rattle.expr_parser.specs.Taken.{begins_with, Taken, TakenAs}
 use Rattle.expr_parser.proofs.Locality.{reads_shrinks, taken_shrinks, taken_as_shrinks}
@@ -121,7 +121,7 @@ module _ (k : ℕ) (left : Expr) (ts : List Token) where
           gives_line (Chain k left) ts (Err e) (comes_take ts (is_operator (suc k)) _ _ h.token behind (Err e) (record { here = h.taken.here; passes = passes })
           (comes_call behind (Prefixed []) _ u mid (Err e) first (comes_fail mid (Climb k u) _ e g)))
 
-      pub chain_goes : (right : Expr) (rest : List Token) → Reads rule (Climb k u) mid (Took right rest) → (o : Answer Expr)
+      pub chain_goes : (right : Expr) (rest : List Token) → Reads rule (Climb k u) mid (Took right rest) → (o : RuleResult Expr)
           → Reads rule (Chain k (binary op left right)) rest o → Reads rule (Chain k left) ts o
       unfolding rule
       chain_goes right rest second o r =
@@ -216,7 +216,7 @@ module _ (close : Symbol) (ts : List Token) where
   unfolding rule
   elements_none t behind h = line (runs_take ts t behind h.here h.passes runs_done)
 
-  pub elements_start : begins_with (is close) ts ≡ false → (o : Answer (List Expr)) → Reads rule (Items close []) ts o → Reads rule (Elements close) ts o
+  pub elements_start : begins_with (is close) ts ≡ false → (o : RuleResult (List Expr)) → Reads rule (Items close []) ts o → Reads rule (Elements close) ts o
   unfolding rule
   elements_start none o r = line (runs_skip ts none (runs_last r))
 
@@ -235,7 +235,7 @@ module _ (close : Symbol) (ts : List Token) where
       unfolding rule
       items_end none rest p = line (runs_call first (runs_skip mid none (runs_take mid p.0 rest.now p.1.here p.1.passes runs_done)))
 
-      pub items_go : (t : Token) (behind : List Token) → Taken (is K.Comma) mid t behind → (o : Answer (List Expr)) → Reads rule (Items close (es ++ v ∷ [])) behind o
+      pub items_go : (t : Token) (behind : List Token) → Taken (is K.Comma) mid t behind → (o : RuleResult (List Expr)) → Reads rule (Items close (es ++ v ∷ [])) behind o
           → Reads rule (Items close es) ts o
       unfolding rule
       items_go t behind h o r = line (runs_call first (runs_take mid t behind h.here h.passes (runs_last r)))
@@ -307,7 +307,7 @@ module _ (at : ℕ) (ts : List Token) where
               gives_line (Entries at es key) ts (Err e) (comes_call ts Whole _ v mid (Err e) first (comes_take mid (is K.Comma) _ _ t behind (Err e) h
               (comes_call behind Whole _ k left (Err e) second (comes_pass_fail left K.Colon _ e p))))
 
-          pub entries_go : (rest : Bor (List Token)) → Passes K.Colon left (Ok rest) → (o : Answer Expr) → Reads rule (Entries at (es ++ (key, v) ∷ []) k) rest.now o
+          pub entries_go : (rest : Bor (List Token)) → Passes K.Colon left (Ok rest) → (o : RuleResult Expr) → Reads rule (Entries at (es ++ (key, v) ∷ []) k) rest.now o
               → Reads rule (Entries at es key) ts o
           unfolding rule
           entries_go rest p o r =
@@ -339,7 +339,7 @@ module _ (at : ℕ) (ts : List Token) where
               gives_line (Fields at fs name) ts (Err e) (comes_call ts Whole _ v mid (Err e) first (comes_take mid (is K.Comma) _ _ t behind (Err e) h
               (comes_take behind is_name _ _ named.token left (Err e) named.taken (comes_pass_fail left K.Assign _ e p))))
 
-          pub fields_go : (rest : Bor (List Token)) → Passes K.Assign left (Ok rest) → (o : Answer Expr) → Reads rule (Fields at (fs ++ field name v ∷ []) next) rest.now o
+          pub fields_go : (rest : Bor (List Token)) → Passes K.Assign left (Ok rest) → (o : RuleResult Expr) → Reads rule (Fields at (fs ++ field name v ∷ []) next) rest.now o
               → Reads rule (Fields at fs name) ts o
           unfolding rule
           fields_go rest p o r =

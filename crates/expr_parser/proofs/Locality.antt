@@ -2,18 +2,18 @@
 -- what comes after the first token of that.
 use Rattle.std.proofs.Common.{◌≡◌, ◌∙◌, ℕ, zero, suc, ◌<◌, ◌≤◌, Bool, true, false, if◌then◌else◌, List, [], ◌∷◌, ◌++◌, length, refl, sym, ap, subst, arith, append_assoc, append-nil, length-append, ◌⊎◌, inl, inr}
 use Rattle.spl_tree.specs.declared.token.Token.{Token}
-use Rattle.expr_parser.specs.Rules.{Rule, done, stop, look, call, Answer, Took, Refused, Spent, Reader, and_then, run, read, RunsTo, Reads}
+use Rattle.expr_parser.specs.Rules.{Rule, done, stop, look, call, RuleResult, Took, Refused, Spent, Reader, and_then, run, read, RunsTo, Reads}
 use Rattle.expr_parser.proofs.RuleLaws.{if_both}
 use Rattle.expr_parser.specs.Taken.{Taken, TakenAs}
 
 -- what is left
-abbrev pub rest_of : {A : Type 0} → Answer A → List Token
+abbrev pub rest_of : {A : Type 0} → RuleResult A → List Token
 rest_of (Took x rest) = rest
 rest_of (Refused rest) = rest
 rest_of Spent = []
 
 -- the same answer, with other tokens left
-abbrev pub leaving : {A : Type 0} → Answer A → List Token → Answer A
+abbrev pub leaving : {A : Type 0} → RuleResult A → List Token → RuleResult A
 leaving (Took x rest) ts = Took x ts
 leaving (Refused rest) ts = Refused ts
 leaving Spent ts = Spent
@@ -25,13 +25,13 @@ SameFirst (t ∷ ts) [] = ⊥
 SameFirst (t ∷ ts) (u ∷ us) = t ≡ u
 
 -- what an answer leaves is the end of the tokens, and the answer stands with any other end of the same first token
-pub record Leaves {A : Type 0} (f : Reader A) (ts : List Token) (answer : Answer A) : Type 0 where
+pub record Leaves {A : Type 0} (f : Reader A) (ts : List Token) (answer : RuleResult A) : Type 0 where
   pub front : List Token
   pub splits : ts ≡ front ++ rest_of answer
   pub stands : (more : List Token) → SameFirst (rest_of answer) more → f (front ++ more) ≡ leaving answer more
 
 -- the value is taken and all of those tokens are left, or fewer are left
-abbrev pub Keeps : {A : Type 0} → A → List Token → Answer A → Type 0
+abbrev pub Keeps : {A : Type 0} → A → List Token → RuleResult A → Type 0
 Keeps x more answer = (answer ≡ Took x more) ⊎ (length (rest_of answer) < length more)
 
 -- with other tokens left, tokens begin with the same one
@@ -41,7 +41,7 @@ same_first (t ∷ front) rest more ts splits s = rw splits refl
 
 module _ {A : Type 0} {f g : Reader A} where
   -- a reader that answers as another one does
-  leaves_same : (ts : List Token) (o : Answer A) → ((more : List Token) → SameFirst ts more → f more ≡ g more)
+  leaves_same : (ts : List Token) (o : RuleResult A) → ((more : List Token) → SameFirst ts more → f more ≡ g more)
       → Leaves g ts o → Leaves f ts o
   leaves_same ts o same l = record {
     front = l.front;
@@ -50,7 +50,7 @@ module _ {A : Type 0} {f g : Reader A} where
   }
 
   -- a reader that takes a token and goes on as another one
-  leaves_next : (t : Token) (ts : List Token) (o : Answer A) → ((more : List Token) → f (t ∷ more) ≡ g more)
+  leaves_next : (t : Token) (ts : List Token) (o : RuleResult A) → ((more : List Token) → f (t ∷ more) ≡ g more)
       → Leaves g ts o → Leaves f (t ∷ ts) o
   leaves_next t ts o next l = record {
     front = t ∷ l.front;
@@ -77,7 +77,7 @@ module _ {Line : Type 0} {Value : Line → Type 0} (c : (x : Line) → Reader (V
       by false e taken skipped = leaves_same (t ∷ ts) (run c d (t ∷ ts)) (skips e) skipped
   leaves_run {A} (call x k) ts = by (c x ts) (leaves x ts) (λ y. leaves_run (k y))
     where
-      by : (q : Answer (Value x)) → Leaves (c x) ts q → ((y : Value x) (rest : List Token) → Leaves (run c (k y)) rest (run c (k y) rest))
+      by : (q : RuleResult (Value x)) → Leaves (c x) ts q → ((y : Value x) (rest : List Token) → Leaves (run c (k y)) rest (run c (k y) rest))
           → Leaves (run c (call x k)) ts (and_then q (λ y rest. run c (k y) rest))
       by (Took y mid) l behind =
           let m = behind y mid in
@@ -92,11 +92,11 @@ module _ {Line : Type 0} {Value : Line → Type 0} (c : (x : Line) → Reader (V
       by Spent l behind = record { front = l.front; splits = l.splits; stands = λ more s. rw (l.stands more s) refl }
 
 -- no more is left than was given
-shorter : {A : Type 0} {f : Reader A} {ts : List Token} {o : Answer A} → Leaves f ts o → length (rest_of o) ≤ length ts
+shorter : {A : Type 0} {f : Reader A} {ts : List Token} {o : RuleResult A} → Leaves f ts o → length (rest_of o) ≤ length ts
 shorter {o = o} l = let both = ap length l.splits in omega (arith, length-append l.front (rest_of o))
 
 -- nor after reading on
-onward : {A B : Type 0} (o : Answer A) (go : A → Reader B) → ((y : A) (rest : List Token) → length (rest_of (go y rest)) ≤ length rest)
+onward : {A B : Type 0} (o : RuleResult A) (go : A → Reader B) → ((y : A) (rest : List Token) → length (rest_of (go y rest)) ≤ length rest)
     → length (rest_of (and_then o go)) ≤ length (rest_of o)
 onward (Took y rest) go le = le y rest
 onward (Refused rest) go le = omega arith
@@ -131,11 +131,11 @@ module _ {Line : Type 0} {Value : Line → Type 0} (c : (x : Line) → Reader (V
       go : Value x → Reader A
       go y rest = run c (k y) rest
 
-      by_end : (y : Value x) → Keeps v more (run c (k y) more) → (o : Answer (Value x)) → Keeps y more o → Keeps v more (and_then o go)
+      by_end : (y : Value x) → Keeps v more (run c (k y) more) → (o : RuleResult (Value x)) → Keeps y more o → Keeps v more (and_then o go)
       by_end y k' o (inl same) = rw same k'
       by_end y k' o (inr less) = let le = onward o go (λ y rest. shorter (leaves_run c leaves (k y) rest)) in inr (omega arith)
 
-      by : (q : Answer (Value x)) → c x ts ≡ q → and_then q go ≡ Took v []
+      by : (q : RuleResult (Value x)) → c x ts ≡ q → and_then q go ≡ Took v []
           → ((y : Value x) (mid : List Token) → run c (k y) mid ≡ Took v [] → Keeps v more (run c (k y) (mid ++ more)))
           → Keeps v more (run c (call x k) (ts ++ more))
       by (Took y []) is e behind = by_end y (behind y [] e) (c x (ts ++ more)) (keeps x ts more y is)
@@ -153,7 +153,7 @@ module _ {Line : Type 0} {Value : Line → Type 0} (rule : (x : Line) → Rule L
   leaves_read (suc n) x ts = leaves_run (read rule n) (leaves_read n) (rule x) ts
 
   -- what is left stands at the end of what was given, and no answer depends on what comes after its first token
-  pub leaves : (n : ℕ) (x : Line) (ts : List Token) (o : Answer (Value x)) → read rule n x ts ≡ o → Leaves (read rule n x) ts o
+  pub leaves : (n : ℕ) (x : Line) (ts : List Token) (o : RuleResult (Value x)) → read rule n x ts ≡ o → Leaves (read rule n x) ts o
   leaves n x ts o e = subst (Leaves (read rule n x) ts) e (leaves_read n x ts)
 
   -- where a line takes all tokens, those added after them are all left, or fewer of them are

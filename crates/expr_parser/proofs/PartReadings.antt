@@ -8,7 +8,7 @@ use Rattle.spl_tree.specs.Trees.{Expr}
 use Rattle.spl_tree.specs.steps.Grammar.{Elements, Items, first_item, no_steps}
 use Rattle.expr_parser.specs.declared.stop.Stop.{Stop}
 use Rattle.expr_parser.specs.declared.stop.Stop.TheVariants as R
-use Rattle.expr_parser.specs.Rules.{Answer, Took, Refused, Spent, read, Reads}
+use Rattle.expr_parser.specs.Rules.{RuleResult, Took, Refused, Spent, read, Reads}
 use Rattle.expr_parser.proofs.RuleLaws.{runs_done}
 use Rattle.expr_parser.specs.Lines as lines
 use Rattle.expr_parser.specs.Lines.{Line, Value, rule}
@@ -25,7 +25,7 @@ module _ (x : Line) (P : Phrase (Value x)) (means : (v : Value x) (a : List Toke
   sound_part : (n : ℕ) (ts : List Token) → Sound P ts (read rule n x ts)
   sound_part n ts = by (read rule n x ts) (sound n x ts)
     where
-      by : (o : Answer (Value x)) → Sound (Phrases x) ts o → Sound P ts o
+      by : (o : RuleResult (Value x)) → Sound (Phrases x) ts o → Sound P ts o
       by (Took v rest) s = record { front = s.front; splits = s.splits; spells = means v s.front s.spells }
       by (Refused rest) s = record {
         front = s.front;

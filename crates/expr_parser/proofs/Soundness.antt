@@ -1,7 +1,7 @@
 -- What is taken is a phrase, and what is taken up to a refusal starts one.
 use Rattle.std.proofs.Common.{◌≡◌, ◌∙◌, ℕ, zero, suc, Bool, true, false, if◌then◌else◌, List, [], ◌∷◌, ◌++◌, refl, sym, ap, append_assoc}
 use Rattle.spl_tree.specs.declared.token.Token.{Token}
-use Rattle.expr_parser.specs.Rules.{Rule, done, stop, look, call, Answer, Took, Refused, Spent, Reader, and_then, run, read}
+use Rattle.expr_parser.specs.Rules.{Rule, done, stop, look, call, RuleResult, Took, Refused, Spent, Reader, and_then, run, read}
 use Rattle.spl_tree.specs.steps.Phrases.{Phrase}
 use Rattle.spl_tree.specs.Fronts.{Starts}
 use Rattle.expr_parser.specs.Parts.{Takes, Begins}
@@ -15,7 +15,7 @@ abbrev pub After : {A B : Type 0} → Phrase A → Phrase B → A → Phrase B
 After P U y v b = (a : List Token) → P y a → U v (a ++ b)
 
 -- a value that is taken has its phrase, and a refusal stands where a phrase was started
-abbrev pub Sound : {A : Type 0} → Phrase A → List Token → Answer A → Type 0
+abbrev pub Sound : {A : Type 0} → Phrase A → List Token → RuleResult A → Type 0
 Sound P ts (Took v rest) = Takes P ts v rest
 Sound P ts (Refused rest) = Begins P ts rest
 Sound P ts Spent = Unit {0}
@@ -33,7 +33,7 @@ module _ {Line : Type 0} {Value : Line → Type 0} (Phrases : (x : Line) → Phr
   Leads U (call x k) = (y : Value x) → Leads (After (Phrases x) U y) (k y)
 
 -- an answer after a token
-behind_token : {A : Type 0} (U : Phrase A) (t : Token) (ts : List Token) (o : Answer A) → Sound (Behind t U) ts o → Sound U (t ∷ ts) o
+behind_token : {A : Type 0} (U : Phrase A) (t : Token) (ts : List Token) (o : RuleResult A) → Sound (Behind t U) ts o → Sound U (t ∷ ts) o
 behind_token U t ts (Took v rest) s = record { front = t ∷ s.front; splits = ap (λ us. t ∷ us) s.splits; spells = s.spells }
 behind_token U t ts (Refused rest) s = record {
   front = t ∷ s.front;
@@ -44,7 +44,7 @@ behind_token U t ts Spent s = tt
 
 module _ {A B : Type 0} (P : Phrase A) (U : Phrase B) where
   -- an answer after a phrase
-  after_phrase : (y : A) (ts mid : List Token) (o : Answer B) → Takes P ts y mid → Sound (After P U y) mid o → Sound U ts o
+  after_phrase : (y : A) (ts mid : List Token) (o : RuleResult B) → Takes P ts y mid → Sound (After P U y) mid o → Sound U ts o
   after_phrase y ts mid (Took v rest) t s = record {
     front = t.front ++ s.front;
     splits = t.splits ∙ ap (λ us. t.front ++ us) s.splits ∙ sym (append_assoc t.front s.front rest);
@@ -93,7 +93,7 @@ module _ {Line : Type 0} {Value : Line → Type 0} (Phrases : (x : Line) → Phr
         by false taken skipped = skipped
     sound_run {A} U (call x k) q ts = by (c x ts) (sound x ts) (λ y. sound_run (After (Phrases x) U y) (k y) (q y))
       where
-        by : (o : Answer (Value x)) → Sound (Phrases x) ts o
+        by : (o : RuleResult (Value x)) → Sound (Phrases x) ts o
             → ((y : Value x) (mid : List Token) → Sound (After (Phrases x) U y) mid (run c (k y) mid))
             → Sound U ts (and_then o (λ y rest. run c (k y) rest))
         by (Took y mid) s behind = after_phrase (Phrases x) U y ts mid (run c (k y) mid) s (behind y mid)

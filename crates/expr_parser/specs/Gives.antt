@@ -4,7 +4,7 @@ use Rattle.std.specs.Borrow.{Bor}
 use Rattle.spl_tree.specs.declared.token.Token.{Token}
 use Rattle.expr_parser.specs.declared.stop.Stop.{Stop}
 use Rattle.expr_parser.specs.declared.stop.Stop.TheVariants as S
-use Rattle.expr_parser.specs.Rules.{Answer, Took, Refused, Reads}
+use Rattle.expr_parser.specs.Rules.{RuleResult, Took, Refused, Reads}
 use Rattle.spl_tree.specs.declared.symbol.Symbol.{Symbol}
 use Rattle.spl_tree.specs.declared.expression.Placed.{Placed}
 use Rattle.spl_tree.specs.steps.Phrases.{Phrase}
@@ -19,7 +19,7 @@ abbrev pub Answered : Type 0 → Type 0
 Answered A = Result (A × ℕ × Bor (List Token)) Stop
 
 -- this holds of what is answered; nothing is said where memory was lacking
-abbrev pub Says : {A : Type 0} → (Answer A → Type 0) → Answered A → Type 0
+abbrev pub Says : {A : Type 0} → (RuleResult A → Type 0) → Answered A → Type 0
 Says P (Ok found) = P (Took found.0 found.2.now)
 Says P (Err (S.At rest)) = P (Refused rest.now)
 Says P (Err S.Memory) = Unit {0}

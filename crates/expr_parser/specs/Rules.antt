@@ -13,15 +13,15 @@ pub data Rule (Line : Type 0) (Value : Line → Type 0) (A : Type 0) : Type 0 wh
 
 -- the result of reading: a value and the tokens after it; or a refusal, and the tokens from the refused one on; or
 -- nothing yet, since it may go no deeper
-pub data Answer (A : Type 0) : Type 0 where
-  Took : A → List Token → Answer A
-  Refused : List Token → Answer A
-  Spent : Answer A
+pub data RuleResult (A : Type 0) : Type 0 where
+  Took : A → List Token → RuleResult A
+  Refused : List Token → RuleResult A
+  Spent : RuleResult A
 
 abbrev pub Reader : Type 0 → Type 0
-Reader A = List Token → Answer A
+Reader A = List Token → RuleResult A
 
-abbrev pub and_then : {A B : Type 0} → Answer A → (A → Reader B) → Answer B
+abbrev pub and_then : {A B : Type 0} → RuleResult A → (A → Reader B) → RuleResult B
 and_then (Took x rest) go = go x rest
 and_then (Refused rest) go = Refused rest
 and_then Spent go = Spent
@@ -41,11 +41,11 @@ read rule (suc n) x ts = run (read rule n) (rule x) ts
 
 module _ {Line : Type 0} {Value : Line → Type 0} (rule : (x : Line) → Rule Line Value (Value x)) where
   -- a rule gives an answer at some depth
-  pub record RunsTo {A : Type 0} (r : Rule Line Value A) (ts : List Token) (answer : Answer A) : Type 0 where
+  pub record RunsTo {A : Type 0} (r : Rule Line Value A) (ts : List Token) (answer : RuleResult A) : Type 0 where
     pub depth : ℕ
     pub is : run (read rule depth) r ts ≡ answer
 
   -- a line gives an answer at some depth
-  pub record Reads (x : Line) (ts : List Token) (answer : Answer (Value x)) : Type 0 where
+  pub record Reads (x : Line) (ts : List Token) (answer : RuleResult (Value x)) : Type 0 where
     pub depth : ℕ
     pub is : read rule depth x ts ≡ answer

@@ -13,7 +13,7 @@ use Rattle.spl_tree.proofs.WordLaws.{keywords_law}
 use Rattle.spl_tree.specs.Trees.{Expr}
 use Rattle.spl_tree.specs.steps.Grammar.{Is, Spells}
 use Rattle.spl_tree.specs.steps.Phrases.{IsKeyword, Phrase, Row, none, more, Separated, first, next}
-use Rattle.expr_parser.specs.Rules.{Rule, done, stop, look, call, Answer, Took, Refused, Spent, Reader, and_then, run, read, RunsTo, Reads}
+use Rattle.expr_parser.specs.Rules.{Rule, done, stop, look, call, RuleResult, Took, Refused, Spent, Reader, and_then, run, read, RunsTo, Reads}
 use Rattle.expr_parser.proofs.RuleLaws.{runs_done, runs_take, runs_skip, runs_call}
 use Rattle.expr_parser.specs.Taken.{begins_with}
 use Rattle.expr_parser.specs.Lines as expressions
@@ -72,7 +72,7 @@ no_name q shut (t ∷ ts) e = by t.kind refl
 -- Steps of a reading
 
 -- how a look at the first token goes
-module _ {A : Type 0} {p : Token → Bool} {f : Token → R A} {d : R A} {o : Answer A} where
+module _ {A : Type 0} {p : Token → Bool} {f : Token → R A} {d : R A} {o : RuleResult A} where
   -- the first token passes
   pub takes : {t : Token} {ts : List Token} → p t ≡ true → RunsTo rule (f t) ts o → RunsTo rule (look p f d) (t ∷ ts) o
   takes {t} {ts} passes r = runs_take (t ∷ ts) t ts refl passes r
@@ -82,11 +82,11 @@ module _ {A : Type 0} {p : Token → Bool} {f : Token → R A} {d : R A} {o : An
   skips {ts} e r = runs_skip ts e r
 
 -- the symbol that has to come
-pub expects : {A : Type 0} {s : Symbol} {r : R A} {o : Answer A} {t : Token} {ts : List Token} → Is s t → RunsTo rule r ts o → RunsTo rule (expect s r) (t ∷ ts) o
+pub expects : {A : Type 0} {s : Symbol} {r : R A} {o : RuleResult A} {t : Token} {ts : List Token} → Is s t → RunsTo rule r ts o → RunsTo rule (expect s r) (t ∷ ts) o
 expects {s = s} {t = t} e r = takes (is-itself s t e) r
 
 -- the reserved word
-pub expects_word : {A : Type 0} {k : Keyword} {r : R A} {o : Answer A} {t : Token} {ts : List Token} → IsKeyword k t → RunsTo rule r ts o
+pub expects_word : {A : Type 0} {k : Keyword} {r : R A} {o : RuleResult A} {t : Token} {ts : List Token} → IsKeyword k t → RunsTo rule r ts o
     → RunsTo rule (expect_word k r) (t ∷ ts) o
 expects_word {k = k} {t = t} e r = takes (word-itself k t e) r
 
@@ -111,7 +111,7 @@ module _ (c : (x : Line) → Reader (Value x)) (d : (x : expressions.Line) → R
   run_lifted (look p f r) (t ∷ ts) = if_same (p t) (run_lifted (f t) ts) (run_lifted r (t ∷ ts))
   run_lifted {A} (call x k) ts = rw (same x ts) (by (d x ts) (λ y rest. run_lifted (k y) rest))
     where
-      by : (o : Answer (expressions.Value x)) → ((y : expressions.Value x) (rest : List Token) → run c (lifted (k y)) rest ≡ run d (k y) rest)
+      by : (o : RuleResult (expressions.Value x)) → ((y : expressions.Value x) (rest : List Token) → run c (lifted (k y)) rest ≡ run d (k y) rest)
           → and_then o (λ y rest. run c (lifted (k y)) rest) ≡ and_then o (λ y rest. run d (k y) rest)
       by (Took y rest) behind = behind y rest
       by (Refused rest) behind = refl
@@ -123,7 +123,7 @@ unfolding read rule
 read_expression zero x ts = refl
 read_expression (suc n) x ts = run_lifted (read rule n) (read expressions.rule n) (read_expression n) (expressions.rule x) ts
 
-pub embedded : {x : expressions.Line} {ts : List Token} {o : Answer (expressions.Value x)} → Reads expressions.rule x ts o → Reads rule (Expression x) ts o
+pub embedded : {x : expressions.Line} {ts : List Token} {o : RuleResult (expressions.Value x)} → Reads expressions.rule x ts o → Reads rule (Expression x) ts o
 embedded {x} {ts} r = record { depth = r.depth; is = read_expression r.depth x ts ∙ r.is }
 
 -- a symbol with which no expression goes on ends an expression
@@ -131,7 +131,7 @@ pub ends : (s : Symbol) (t : Token) (ts : List Token) → 10 < symbol_binds s �
 ends s t ts stops e = rw e stops
 
 -- an expression up to such a symbol
-pub expression_reads : {A : Type 0} {k : Expr → R A} {o : Answer A} {e : Expr} {a : List Token} → Spells e a
+pub expression_reads : {A : Type 0} {k : Expr → R A} {o : RuleResult A} {e : Expr} {a : List Token} → Spells e a
     → (s : Symbol) {t : Token} {rest : List Token} → 10 < symbol_binds s → Is s t → RunsTo rule (k e) (t ∷ rest) o → RunsTo rule (expression k) (a ++ t ∷ rest) o
 expression_reads d s {t = t} {rest = rest} stops e r = runs_call (embedded (spells_reads d (t ∷ rest) (ends s t rest stops e))) r
 

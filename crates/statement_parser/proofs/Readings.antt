@@ -12,7 +12,7 @@ use Rattle.expr_parser.proofs.Derive.{exit}
 use Rattle.expr_parser.specs.Gives.{Answers, Passes, PassesName}
 use Rattle.expr_parser.specs.Lines as expressions
 use Rattle.expr_parser.specs.Lines.{is, is_name}
-use Rattle.expr_parser.specs.Rules.{done, stop, look, call, Answer, Took, Refused, RunsTo, Reads}
+use Rattle.expr_parser.specs.Rules.{done, stop, look, call, RuleResult, Took, Refused, RunsTo, Reads}
 use Rattle.expr_parser.proofs.RuleLaws.{line, runs_done, runs_stop, runs_take, runs_skip, runs_call, runs_fail}
 use Rattle.expr_parser.specs.Taken.{begins_with, Taken, TakenAs}
 use Rattle.statement_parser.proofs.CompleteParts.{embedded}
@@ -26,10 +26,10 @@ pub finished : {A : Type 0} {v : A} {ts : List Token} → RunsTo rule (done v) t
 finished = runs_done
 
 -- a line
-pub reads : {x : Line} {ts : List Token} {o : Answer (Value x)} → RunsTo rule (rule x) ts o → Reads rule x ts o
+pub reads : {x : Line} {ts : List Token} {o : RuleResult (Value x)} → RunsTo rule (rule x) ts o → Reads rule x ts o
 reads r = line r
 
-module _ {A : Type 0} {ts : List Token} {o : Answer A} where
+module _ {A : Type 0} {ts : List Token} {o : RuleResult A} where
   module _ {p : Token → Bool} {f : Token → R A} {d : R A} where
     -- the first token passes a test
     pub taken : {t : Token} {rest : List Token} → Taken p ts t rest → RunsTo rule (f t) rest o → RunsTo rule (look p f d) ts o
@@ -73,23 +73,23 @@ module _ {A : Type 0} {ts : List Token} {o : Answer A} where
 -- ---- what is answered
 
 -- what is said of an answer, where one thing follows from another
-pub says_on : {A : Type 0} {P Q : Answer A → Type 0} → ((o : Answer A) → P o → Q o) → (res : Answered A) → Says P res → Says Q res
+pub says_on : {A : Type 0} {P Q : RuleResult A → Type 0} → ((o : RuleResult A) → P o → Q o) → (res : Answered A) → Says P res → Says Q res
 says_on on (Ok found) said = on (Took found.0 found.1.now) said
 says_on on (Err (S.At rest)) said = on (Refused rest.now) said
 says_on on (Err S.Memory) said = tt
 
 -- a line whose rule goes on with the rule r at mid, which stops
 pub fails : (x : Line) (ts mid : List Token) (r : R (Value x)) (res : Answered (Value x)) (e : Stop) → IsErrAnd res (λ y. y ≡ e)
-    → ((o : Answer (Value x)) → RunsTo rule r mid o → Reads rule x ts o) → Comes r mid (Err e) → Gives x ts res
+    → ((o : RuleResult (Value x)) → RunsTo rule r mid o → Reads rule x ts o) → Comes r mid (Err e) → Gives x ts res
 fails x ts mid r res e h on c = exit (Gives x ts) res e h (says_on {P = RunsTo rule r mid} {Q = Reads rule x ts} on (Err e) c)
 
 -- the same of a rule
 pub rule_fails : {A : Type 0} (q r : R A) (ts mid : List Token) (res : Answered A) (e : Stop) → IsErrAnd res (λ y. y ≡ e)
-    → ((o : Answer A) → RunsTo rule r mid o → RunsTo rule q ts o) → Comes r mid (Err e) → Comes q ts res
+    → ((o : RuleResult A) → RunsTo rule r mid o → RunsTo rule q ts o) → Comes r mid (Err e) → Comes q ts res
 rule_fails {A} q r ts mid res e h on c = exit (Comes q ts) res e h (says_on {P = RunsTo rule r mid} {Q = RunsTo rule q ts} on (Err e) c)
 
 -- a rule that goes on with the rule r at mid has the result that is answered for r
-pub rule_on : {A : Type 0} (q r : R A) (ts mid : List Token) (res : Answered A) → ((o : Answer A) → RunsTo rule r mid o → RunsTo rule q ts o) → Comes r mid res
+pub rule_on : {A : Type 0} (q r : R A) (ts mid : List Token) (res : Answered A) → ((o : RuleResult A) → RunsTo rule r mid o → RunsTo rule q ts o) → Comes r mid res
     → Comes q ts res
 rule_on q r ts mid res on c = says_on {P = RunsTo rule r mid} {Q = RunsTo rule q ts} on res c
 

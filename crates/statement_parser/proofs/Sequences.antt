@@ -4,16 +4,16 @@ use Rattle.std.specs.Borrow.{Bor}
 use Rattle.spl_tree.specs.declared.token.Token.{Token}
 use Rattle.expr_parser.specs.declared.stop.Stop.{Stop}
 use Rattle.expr_parser.specs.declared.stop.Stop.TheVariants as S
-use Rattle.expr_parser.specs.Rules.{Answer, Took}
+use Rattle.expr_parser.specs.Rules.{RuleResult, Took}
 use Rattle.statement_parser.specs.Gives.{Answered, Says, Pushed}
 
 -- a value of which this is said is the last one
-pub record PushedAs {A : Type 0} (P : Answer A → Type 0) (xs ys : List A) (rest : List Token) : Type 0 where
+pub record PushedAs {A : Type 0} (P : RuleResult A → Type 0) (xs ys : List A) (rest : List Token) : Type 0 where
   pub one : A
   pub said : P (Took one rest)
   pub is : ys ≡ xs ++ one ∷ []
 
-module _ {A : Type 0} (P : Answer A → Type 0) (xs ys : List A) where
+module _ {A : Type 0} (P : RuleResult A → Type 0) (xs ys : List A) where
   pub pushed : (taken : Answered A) (rest : Bor (List Token)) → Says P taken → Pushed xs taken (Ok rest) ys → PushedAs P xs ys rest.now
   pushed (Ok found) rest s p = record { one = found.0; said = subst (λ r. P (Took found.0 r)) (sym p.1) s; is = p.0 }
   pushed (Err e) rest s p = absurd p

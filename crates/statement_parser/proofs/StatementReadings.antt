@@ -6,7 +6,7 @@ use Rattle.spl_tree.specs.declared.statement.StmtKind.TheVariants as Z
 use Rattle.spl_tree.specs.declared.token.Token.{Token}
 use Rattle.expr_parser.specs.declared.stop.Stop.{Stop}
 use Rattle.expr_parser.specs.declared.stop.Stop.TheVariants as S
-use Rattle.expr_parser.specs.Rules.{done, stop, look, call, Answer, Took, Refused, Spent, and_then, run, read, RunsTo, Reads}
+use Rattle.expr_parser.specs.Rules.{done, stop, look, call, RuleResult, Took, Refused, Spent, and_then, run, read, RunsTo, Reads}
 use Rattle.expr_parser.proofs.RuleLaws.{run_more, runs_take, runs_skip}
 use Rattle.expr_parser.specs.Taken.{begins_with, Taken}
 use Rattle.expr_parser.proofs.Locality.{rest_of, run_shrinks}
@@ -23,7 +23,7 @@ behind (look p f d) k = look p (λ t. behind (f t) k) (behind d k)
 behind (call y g) k = call y (λ v. behind (g v) k)
 
 module _ {A B : Type 0} (n : ℕ) (k : A → R B) where
-  abbrev go : A → List Token → Answer B
+  abbrev go : A → List Token → RuleResult B
   go x rest = run (read rule n) (k x) rest
 
   -- its result is that of the two in turn
@@ -41,18 +41,18 @@ module _ {A B : Type 0} (n : ℕ) (k : A → R B) where
       by false one two = two
   behind_is (call y g) ts = by (read rule n y ts) (λ v rest. behind_is (g v) rest)
     where
-      by : (q : Answer (Value y)) → ((v : Value y) (rest : List Token) → run (read rule n) (behind (g v) k) rest ≡ and_then (run (read rule n) (g v) rest) go)
+      by : (q : RuleResult (Value y)) → ((v : Value y) (rest : List Token) → run (read rule n) (behind (g v) k) rest ≡ and_then (run (read rule n) (g v) rest) go)
           → and_then q (λ v rest. run (read rule n) (behind (g v) k) rest) ≡ and_then (and_then q (λ v rest. run (read rule n) (g v) rest)) go
       by (Took v rest) same = same v rest
       by (Refused rest) same = refl
       by Spent same = refl
 
 module _ {A B : Type 0} (r : R A) (k : A → R B) {ts : List Token} where
-  both : {v : A} {mid : List Token} (o : Answer B) (n : ℕ) → run (read rule n) r ts ≡ Took v mid → run (read rule n) (k v) mid ≡ o → RunsTo rule (behind r k) ts o
+  both : {v : A} {mid : List Token} (o : RuleResult B) (n : ℕ) → run (read rule n) r ts ≡ Took v mid → run (read rule n) (k v) mid ≡ o → RunsTo rule (behind r k) ts o
   both o n first second = record { depth = n; is = behind_is n k r ts ∙ rw first second }
 
   -- the first succeeds
-  pub part_read : {v : A} {mid : List Token} {o : Answer B} → RunsTo rule r ts (Took v mid) → RunsTo rule (k v) mid o → RunsTo rule (behind r k) ts o
+  pub part_read : {v : A} {mid : List Token} {o : RuleResult B} → RunsTo rule r ts (Took v mid) → RunsTo rule (k v) mid o → RunsTo rule (behind r k) ts o
   part_read {v} {mid} {o = Took x rest} first second =
       let n = first.depth + second.depth in
       both (Took x rest) n (run_more rule first.depth n r ts (Took v mid) (omega arith) first.is tt) (run_more rule second.depth n (k v) mid (Took x rest) (omega arith) second.is tt)
@@ -67,7 +67,7 @@ module _ {A B : Type 0} (r : R A) (k : A → R B) {ts : List Token} where
       at_both : run (read rule m) r ts ≡ Took v mid
       at_both = run_more rule first.depth m r ts (Took v mid) (omega arith) first.is tt
 
-      by : (q : Answer A) → run (read rule second.depth) r ts ≡ q → RunsTo rule (behind r k) ts Spent
+      by : (q : RuleResult A) → run (read rule second.depth) r ts ≡ q → RunsTo rule (behind r k) ts Spent
       by (Took x rest) e = both Spent second.depth (e ∙ sym (run_more rule second.depth m r ts (Took x rest) (omega arith) e tt) ∙ at_both) second.is
       by (Refused rest) e = both Spent second.depth (e ∙ sym (run_more rule second.depth m r ts (Refused rest) (omega arith) e tt) ∙ at_both) second.is
       by Spent e = record { depth = second.depth; is = behind_is second.depth k r ts ∙ rw e refl }
@@ -80,12 +80,12 @@ part_fails r k ts S.Memory c = tt
 -- ---- lengths
 
 -- fewer tokens are left where something is taken
-abbrev Less : {A : Type 0} → Answer A → ℕ → Type 0
+abbrev Less : {A : Type 0} → RuleResult A → ℕ → Type 0
 Less (Took x rest) n = length rest < n
 Less (Refused rest) n = Unit {0}
 Less Spent n = Unit {0}
 
-less_from : {A : Type 0} {m n : ℕ} (o : Answer A) → length (rest_of o) ≤ m → m < n → Less o n
+less_from : {A : Type 0} {m n : ℕ} (o : RuleResult A) → length (rest_of o) ≤ m → m < n → Less o n
 less_from (Took x rest) le lt = omega arith
 less_from (Refused rest) le lt = tt
 less_from Spent le lt = tt
@@ -115,7 +115,7 @@ module _ {A : Type 0} {n : ℕ} where
   eager_call : {y : Line} {k : Value y → R A} → ((ts : List Token) → Less (read rule n y ts) (length ts)) → Eager n (call y k)
   eager_call {y} {k} h = record { less = λ ts. by ts (read rule n y ts) (h ts) }
     where
-      by : (ts : List Token) (q : Answer (Value y)) → Less q (length ts) → Less (and_then q (λ v rest. run (read rule n) (k v) rest)) (length ts)
+      by : (ts : List Token) (q : RuleResult (Value y)) → Less q (length ts) → Less (and_then q (λ v rest. run (read rule n) (k v) rest)) (length ts)
       by ts (Took v mid) lt = less_from (run (read rule n) (k v) mid) (run_shrinks rule n (k v) mid) lt
       by ts (Refused rest) lt = tt
       by ts Spent lt = tt
@@ -146,13 +146,13 @@ statement_shrinks {ts = ts} h = subst (λ o. Less o (length ts)) h.is (line_less
 
 module _ (at : ℕ) (arms : List (Expr × Stmt)) {ts : List Token} where
   -- no `else`
-  pub arms_none : (closed : Bool) {o : Answer (Stmt × Bool)} → (closed ≡ true → begins_with (is_word K.Else) ts ≡ false) → RunsTo rule (done (placed at (Z.If arms None), false)) ts o
+  pub arms_none : (closed : Bool) {o : RuleResult (Stmt × Bool)} → (closed ≡ true → begins_with (is_word K.Else) ts ≡ false) → RunsTo rule (done (placed at (Z.If arms None), false)) ts o
       → RunsTo rule (lines.arms_end at arms closed) ts o
   arms_none true h r = runs_skip ts (h refl) r
   arms_none false h r = r
 
   -- an `else`
-  pub arms_else : (closed : Bool) {rest : List Token} {o : Answer (Stmt × Bool)} → (closed ≡ true) × ((t : Token) × Taken (is_word K.Else) ts t rest)
+  pub arms_else : (closed : Bool) {rest : List Token} {o : RuleResult (Stmt × Bool)} → (closed ≡ true) × ((t : Token) × Taken (is_word K.Else) ts t rest)
       → RunsTo rule (look (is_word K.If) (λ _. call (Arms at arms) done) (lines.last_branch_rule at arms)) rest o → RunsTo rule (lines.arms_end at arms closed) ts o
   arms_else true {rest} h r = runs_take ts h.1.0 rest h.1.1.here h.1.1.passes r
   arms_else false h r = let e = h.0 in absurd (cc)

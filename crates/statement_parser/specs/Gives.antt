@@ -7,7 +7,7 @@ use Rattle.spl_tree.specs.declared.token.Token.{Token}
 use Rattle.expr_parser.specs.declared.stop.Stop.{Stop}
 use Rattle.expr_parser.specs.declared.stop.Stop.TheVariants as S
 use Rattle.expr_parser.specs.Taken.{begins_with, Taken, TakenAs}
-use Rattle.expr_parser.specs.Rules.{Answer, Took, Refused, RunsTo, Reads}
+use Rattle.expr_parser.specs.Rules.{RuleResult, Took, Refused, RunsTo, Reads}
 use Rattle.statement_parser.specs.Lines.{Line, Value, rule, R, is_word, is_dollar, dollar_at}
 
 -- a value and the tokens after it, or where reading stops
@@ -15,7 +15,7 @@ abbrev pub Answered : Type 0 → Type 0
 Answered A = Result (A × Bor (List Token)) Stop
 
 -- this holds of what is answered; nothing is said where memory ran out
-abbrev pub Says : {A : Type 0} → (Answer A → Type 0) → Answered A → Type 0
+abbrev pub Says : {A : Type 0} → (RuleResult A → Type 0) → Answered A → Type 0
 Says P (Ok found) = P (Took found.0 found.1.now)
 Says P (Err (S.At rest)) = P (Refused rest.now)
 Says P (Err S.Memory) = Unit {0}

@@ -14,7 +14,7 @@ use Rattle.spl_tree.specs.Trees.{placed, TypeExpr, Shape}
 use Rattle.spl_tree.specs.steps.Grammar.{Is}
 use Rattle.spl_tree.specs.steps.StatementGrammar.{BeginsAt, begins}
 use Rattle.spl_tree.specs.steps.TypeGrammar.{named, SpellsType, boolean, rstring, int, left_out, name, list, map, tuple, SpellsAttributes, first_attribute, next_attribute, SpellsShape, plain, attributes, SpellsFunctionParameters, no_parameters, parameters}
-use Rattle.expr_parser.specs.Rules.{done, stop, Answer, Took, RunsTo, Reads}
+use Rattle.expr_parser.specs.Rules.{done, stop, RuleResult, Took, RunsTo, Reads}
 use Rattle.expr_parser.proofs.RuleLaws.{line, runs_done, runs_call}
 use Rattle.spl_tree.specs.steps.Phrases.{IsKeyword}
 use Rattle.statement_parser.specs.Lines.{rule, R, is_type, type_of, a_type, TypeExpression, ListType, MapType, TupleType, Attributes, MoreAttributes, Shaped, FunctionParameters}
@@ -70,7 +70,7 @@ data Front (k : TypeExpr) : List Token → List Token → Type 0 where
   of_tuple : (t : Token) (ts rest : List Token) → IsKeyword K.Tuple t → Reads rule (TupleType t.start) ts (Took k rest) → Front k (t ∷ ts) rest
 
 -- so it is read where one may come
-front_reads : {A : Type 0} (r : TypeExpr → R A) (other : R A) {o : Answer A} {k : TypeExpr} {ts rest : List Token} → Front k ts rest
+front_reads : {A : Type 0} (r : TypeExpr → R A) (other : R A) {o : RuleResult A} {k : TypeExpr} {ts rest : List Token} → Front k ts rest
     → RunsTo rule (r k) rest o → RunsTo rule (a_type r other) ts o
 front_reads r other (alone t rest e is) s = takes e (rw is s)
 front_reads r other (of_list t ts rest e d) s = skips (rw e refl) (takes (rw e refl) (runs_call d s))
@@ -111,7 +111,7 @@ mutual
       (runs_call (line (runs_call (front_type (front d (t ∷ rest))) (takes (rw e refl) (rw e (only s))))) runs_done))))
 
 -- a type, where one may come
-pub a_type_reads : {A : Type 0} (r : TypeExpr → R A) (other : R A) {o : Answer A} {k : TypeExpr} {a : List Token} → SpellsType k a → (rest : List Token)
+pub a_type_reads : {A : Type 0} (r : TypeExpr → R A) (other : R A) {o : RuleResult A} {k : TypeExpr} {a : List Token} → SpellsType k a → (rest : List Token)
     → RunsTo rule (r k) rest o → RunsTo rule (a_type r other) (a ++ rest) o
 a_type_reads r other d rest s = front_reads r other (front d rest) s
 

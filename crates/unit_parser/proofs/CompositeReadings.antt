@@ -13,7 +13,7 @@ use Rattle.expr_parser.specs.Lines.{is_name}
 use Rattle.expr_parser.proofs.Locality.{rest_of, run_shrinks}
 use Rattle.expr_parser.proofs.RuleLaws.{line, Settled, runs_last}
 use Rattle.expr_parser.specs.Taken.{begins_with, Taken}
-use Rattle.expr_parser.specs.Rules.{done, look, call, Answer, Took, Refused, Spent, run, read, RunsTo, Reads}
+use Rattle.expr_parser.specs.Rules.{done, look, call, RuleResult, Took, Refused, Spent, run, read, RunsTo, Reads}
 use Rattle.statement_parser.proofs.StatementReadings.{behind, part_read}
 use Rattle.statement_parser.specs.Gives.{Comes, Gives}
 use Rattle.statement_parser.specs.Lines.{Line, Value, Name, rule, R, expect, expect_name, name_at, HeadPorts, CompositeParameterClause, TypeClause, GraphClause, ParameterClause, TypeOf, Types, Shaped}
@@ -28,7 +28,7 @@ name_takes {A} k (t ∷ ts) mid v r = by (is_name t) r.is
     by false e = absurd (cc)
 
 -- a value or a refusal that a line gives is given by its rule
-pub by_rule : {x : Line} {ts : List Token} {o : Answer (Value x)} → Settled o → Reads rule x ts o → RunsTo rule (rule x) ts o
+pub by_rule : {x : Line} {ts : List Token} {o : RuleResult (Value x)} → Settled o → Reads rule x ts o → RunsTo rule (rule x) ts o
 unfolding read
 by_rule {x} {ts} {o} s r = at_depth r.depth r.is
   where
@@ -47,7 +47,7 @@ first_way true x y z e = refl
 first_way false x y z e = absurd (cc)
 
 -- where the first token passes, it doesn't matter how a rule would go on without
-pub passing : {A : Type 0} {p : Token → Bool} {f : Token → R A} {d d' : R A} {ts : List Token} {o : Answer A} → begins_with p ts ≡ true
+pub passing : {A : Type 0} {p : Token → Bool} {f : Token → R A} {d d' : R A} {ts : List Token} {o : RuleResult A} → begins_with p ts ≡ true
     → RunsTo rule (look p f d) ts o → RunsTo rule (look p f d') ts o
 passing {ts = []} begins r = absurd (cc)
 passing {ts = t ∷ ts} begins r = record { depth = r.depth; is = first_way _ _ _ _ begins ∙ r.is }
@@ -82,12 +82,12 @@ pub taken_begins : {p : Token → Bool} {ts rest : List Token} {t : Token} → T
 taken_begins {p} h = ap (begins_with p) h.here ∙ h.passes
 
 -- with a name a definition comes
-pub more_types : {xs : List TypeDefinition} {ts : List Token} {o : Answer (List TypeDefinition)} → begins_with is_name ts ≡ true
+pub more_types : {xs : List TypeDefinition} {ts : List Token} {o : RuleResult (List TypeDefinition)} → begins_with is_name ts ≡ true
     → RunsTo rule (behind (rule TypeOf) (one_more xs)) ts o → Reads rule (Types xs) ts o
 unfolding rule
 more_types begins r = line (passing begins r)
 
-pub type_read : {xs : List TypeDefinition} {d : TypeDefinition} {ts mid : List Token} {o : Answer (List TypeDefinition)} → begins_with is_name ts ≡ true
+pub type_read : {xs : List TypeDefinition} {d : TypeDefinition} {ts mid : List Token} {o : RuleResult (List TypeDefinition)} → begins_with is_name ts ≡ true
     → Reads rule TypeOf ts (Took d mid) → Reads rule (Types (xs ++ d ∷ [])) mid o → Reads rule (Types xs) ts o
 type_read {xs} begins first q = more_types begins (part_read (rule TypeOf) (one_more xs) (by_rule tt first) (runs_last q))
 

@@ -20,7 +20,7 @@ use Rattle.expr_parser.specs.Gives.{Passes}
 use Rattle.expr_parser.specs.Lines.{is}
 use Rattle.expr_parser.proofs.RuleLaws.{line}
 use Rattle.expr_parser.specs.Taken.{begins_with}
-use Rattle.expr_parser.specs.Rules.{done, stop, look, call, Answer, Took, Refused, RunsTo, Reads}
+use Rattle.expr_parser.specs.Rules.{done, stop, look, call, RuleResult, Took, Refused, RunsTo, Reads}
 use Rattle.unit_parser.proofs.CompositeReadings.{by_rule, composite_named, name_takes}
 use Rattle.statement_parser.proofs.Readings.{finished, skipped, passed, says_on, pass_fails}
 use Rattle.statement_parser.specs.Gives.{Answered, Comes, Gives}
@@ -44,13 +44,13 @@ names_stopped ts S.Memory g = tt
 
 -- names whose answer is that of a rule that stops
 pub names_fail : (ts mid : List Token) (r : R (Unit {0})) (res : Result (Bor (List Token)) Stop) (e : Stop) → IsErrAnd res (λ y. y ≡ e)
-    → ((o : Answer (Unit {0})) → RunsTo rule r mid o → Reads rule Namespace ts o) → Comes r mid (Err e) → PassesNames ts res
+    → ((o : RuleResult (Unit {0})) → RunsTo rule r mid o → Reads rule Namespace ts o) → Comes r mid (Err e) → PassesNames ts res
 names_fail ts mid r res e h on c =
     exit (PassesNames ts) res e h (names_stop ts e (says_on {P = RunsTo rule r mid} {Q = Reads rule Namespace ts} on (Err e) c))
 
 -- names that end with `;`
 pub names_end : (ts mid : List Token) (res : Result (Bor (List Token)) Stop)
-    → ((o : Answer (Unit {0})) → RunsTo rule (expect Y.Semicolon (done tt)) mid o → Reads rule Namespace ts o) → Passes Y.Semicolon mid res → PassesNames ts res
+    → ((o : RuleResult (Unit {0})) → RunsTo rule (expect Y.Semicolon (done tt)) mid o → Reads rule Namespace ts o) → Passes Y.Semicolon mid res → PassesNames ts res
 names_end ts mid (Ok rest) on p = on (Took tt rest.now) (passed Y.Semicolon p finished)
 names_end ts mid (Err e) on p =
     names_stop ts e (says_on {P = RunsTo rule (expect Y.Semicolon (done tt)) mid} {Q = Reads rule Namespace ts} on (Err e) (pass_fails mid Y.Semicolon (done tt) e p))
@@ -71,14 +71,14 @@ define_stop ts (S.At rest) g = g
 define_stop ts S.Memory g = tt
 
 pub define_fails : (ts mid : List Token) (r : List Definition → R (List Definition)) (res : Answered (Option Definition)) (e : Stop) → IsErrAnd res (λ y. y ≡ e)
-    → ((xs : List Definition) (o : Answer (List Definition)) → RunsTo rule (r xs) mid o → Reads rule (Definitions xs) ts o)
+    → ((xs : List Definition) (o : RuleResult (List Definition)) → RunsTo rule (r xs) mid o → Reads rule (Definitions xs) ts o)
     → ((xs : List Definition) → Comes (r xs) mid (Err e)) → DefinesOn ts res
 define_fails ts mid r res e h on c =
     exit (DefinesOn ts) res e h (define_stop ts e (λ xs. says_on {P = RunsTo rule (r xs) mid} {Q = Reads rule (Definitions xs) ts} (on xs) (Err e) (c xs)))
 
 -- where a rule has one definition first, it stands among the definitions from some tokens before that on
 pub defines : (ts mid : List Token) (r : List Definition → R (List Definition)) (res : Answered (Option Definition)) → length mid ≤ length ts
-    → ((xs : List Definition) (o : Answer (List Definition)) → RunsTo rule (r xs) mid o → Reads rule (Definitions xs) ts o)
+    → ((xs : List Definition) (o : RuleResult (List Definition)) → RunsTo rule (r xs) mid o → Reads rule (Definitions xs) ts o)
     → Defines r mid res → DefinesOn ts res
 defines ts mid r (Ok (Some x, rest)) h on d = ((let lt = d.0 in omega arith), λ xs o q. on xs o (d.1 xs o q))
 defines ts mid r (Ok (None, rest)) h on d = absurd d
@@ -148,7 +148,7 @@ four false false true d w x y z s o some = refl
 four false false false true w x y z s o some = refl
 four false false false false w x y z s o some = let clash = some refl refl refl in absurd (cc)
 
-module _ {A : Type 0} {r : TypeExpr → R A} {ts : List Token} {o : Answer A} where
+module _ {A : Type 0} {r : TypeExpr → R A} {ts : List Token} {o : RuleResult A} where
   -- where a type begins, it doesn't matter how a rule would go on without
   pub type_begins : {other : R A} → begins_with is_type_front ts ≡ true → RunsTo rule (a_type r stop) ts o → RunsTo rule (a_type r other) ts o
   type_begins {other} begins q = by ts begins q
@@ -178,7 +178,7 @@ pub record NoWord (ts : List Token) : Type 0 where
   pub no_void : begins_with (is_word K.Void) ts ≡ false
 
 module _ {ts : List Token} (w : NoWord ts) (xs : List Definition) where
-  behind_words : {o : Answer (List Definition)} → RunsTo rule (a_type (λ k. function_behind (Some k) xs) (done xs)) ts o → Reads rule (Definitions xs) ts o
+  behind_words : {o : RuleResult (List Definition)} → RunsTo rule (a_type (λ k. function_behind (Some k) xs) (done xs)) ts o → Reads rule (Definitions xs) ts o
   unfolding rule
   behind_words q = line (skipped w.no_type (skipped w.no_public (skipped w.no_composite (skipped w.no_void q))))
 
@@ -187,12 +187,12 @@ module _ {ts : List Token} (w : NoWord ts) (xs : List Definition) where
   no_more shut = behind_words (no_type_begins {r = λ k. function_behind (Some k) xs} {other = done xs} shut finished)
 
   -- with one there is a function
-  pub typed : begins_with is_type_front ts ≡ true → (o : Answer (List Definition))
+  pub typed : begins_with is_type_front ts ≡ true → (o : RuleResult (List Definition))
       → RunsTo rule (behind (rule TypeExpression) (λ k. function_behind (Some k) xs)) ts o → Reads rule (Definitions xs) ts o
   unfolding rule
   typed begins o q = behind_words (type_begins {r = λ k. function_behind (Some k) xs} {other = done xs} begins q)
 
   -- its type is read, and what comes after it
   pub typed_read : {kind : TypeExpr} {mid : List Token} → begins_with is_type_front ts ≡ true → Reads rule TypeExpression ts (Took kind mid)
-      → (o : Answer (List Definition)) → RunsTo rule (function_behind (Some kind) xs) mid o → Reads rule (Definitions xs) ts o
+      → (o : RuleResult (List Definition)) → RunsTo rule (function_behind (Some kind) xs) mid o → Reads rule (Definitions xs) ts o
   typed_read begins first o q = typed begins o (part_read (rule TypeExpression) (λ k. function_behind (Some k) xs) (by_rule tt first) q)

@@ -1,7 +1,7 @@
 -- Each reading has an answer, since a line reads lines of lower rank alone until it takes a token.
 use Rattle.std.proofs.Common.{◌≡◌, ◌<◌, ◌≤◌, ℕ, zero, suc, Bool, true, false, List, [], ◌∷◌, length, refl, arith}
 use Rattle.spl_tree.specs.declared.token.Token.{Token}
-use Rattle.expr_parser.specs.Rules.{Rule, done, stop, look, call, Answer, Took, Refused, Spent, RunsTo, Reads}
+use Rattle.expr_parser.specs.Rules.{Rule, done, stop, look, call, RuleResult, Took, Refused, Spent, RunsTo, Reads}
 use Rattle.expr_parser.proofs.RuleLaws.{line, runs_done, runs_stop, runs_take, runs_skip, runs_call, runs_fail}
 use Rattle.expr_parser.specs.Taken.{begins_with}
 
@@ -24,7 +24,7 @@ IfNone true P = Unit {0}
 IfNone false P = P
 
 -- an answer, where one is reached, leaves fewer tokens than these, or no more
-abbrev pub Leaves : {A : Type 0} → Bool → List Token → Answer A → Type 0
+abbrev pub Leaves : {A : Type 0} → Bool → List Token → RuleResult A → Type 0
 Leaves strict from (Took v rest) = Less strict (length rest) (length from)
 Leaves strict from (Refused rest) = Unit {0}
 Leaves strict from Spent = ⊥
@@ -40,13 +40,13 @@ module _ {Line : Type 0} {Value : Line → Type 0} (rank : Line → ℕ) (takes 
 module _ {Line : Type 0} {Value : Line → Type 0} (rule : (x : Line) → Rule Line Value (Value x)) where
   -- a rule reaches an answer
   record Answered {A : Type 0} (r : Rule Line Value A) (strict : Bool) (from ts : List Token) : Type 0 where
-    answer : Answer A
+    answer : RuleResult A
     runs : RunsTo rule r ts answer
     leaves : Leaves strict from answer
 
   -- a line reaches an answer
   pub record LineAnswered (x : Line) (strict : Bool) (ts : List Token) : Type 0 where
-    pub answer : Answer (Value x)
+    pub answer : RuleResult (Value x)
     pub reads : Reads rule x ts answer
     pub leaves : Leaves strict ts answer
 
@@ -63,7 +63,7 @@ module _ {Line : Type 0} {Value : Line → Type 0} (rule : (x : Line) → Rule L
         → ((v : Value x) (mid : List Token) → Less taken (length mid) (length ts) → Answered (k v) strict from mid) → Answered (call x k) strict from ts
     called {x} {k} {taken} ts c further = by c.answer c.reads c.leaves
       where
-        by : (o : Answer (Value x)) → Reads rule x ts o → Leaves taken ts o → Answered (call x k) strict from ts
+        by : (o : RuleResult (Value x)) → Reads rule x ts o → Leaves taken ts o → Answered (call x k) strict from ts
         by (Took v mid) reads less = let c = further v mid less in record { answer = c.answer; runs = runs_call reads c.runs; leaves = c.leaves }
         by (Refused rest) reads less = record { answer = Refused rest; runs = runs_fail reads; leaves = tt }
         by Spent reads less = absurd less

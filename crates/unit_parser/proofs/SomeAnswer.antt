@@ -5,7 +5,7 @@ use Rattle.spl_tree.specs.declared.unit.Definition.{Definition}
 use Rattle.spl_tree.specs.Units.{place_of}
 use Rattle.spl_tree.specs.Weights.{too_deep_from}
 use Rattle.expr_parser.specs.declared.answer.SyntaxAnswer.TheVariants as A
-use Rattle.expr_parser.specs.Rules.{Answer, Took, Refused, Spent, Reads}
+use Rattle.expr_parser.specs.Rules.{RuleResult, Took, Refused, Spent, Reads}
 use Rattle.statement_parser.specs.Lines.{Whole, rule}
 use Rattle.unit_parser.specs.Parses.{IsAnswered, SomeAnswerLaw}
 use Rattle.unit_parser.proofs.Parsed.{all_taken, some_left, refused}
@@ -19,7 +19,7 @@ some_answer tokens = by_weights (too_deep_from 0 tokens.list) refl
     by_left shallow unit [] reads = (Ok unit, all_taken tokens [] tokens.list refl reads refl shallow, λ e. cc)
     by_left shallow unit (t ∷ rest) reads = (Err (A.Unexpected _), some_left tokens (t ∷ rest) tokens.list refl reads (λ e. cc) shallow, λ e. cc)
 
-    by_reading : too_deep_from 0 tokens.list ≡ None → (o : Answer (List Definition)) → Reads rule Whole tokens.list o → Leaves (takes Whole) tokens.list o → IsAnswered tokens
+    by_reading : too_deep_from 0 tokens.list ≡ None → (o : RuleResult (List Definition)) → Reads rule Whole tokens.list o → Leaves (takes Whole) tokens.list o → IsAnswered tokens
     by_reading shallow (Took unit rest) reads leaves = by_left shallow unit rest reads
     by_reading shallow (Refused rest) reads leaves = (Err (A.Unexpected _), refused tokens rest tokens.list refl reads shallow, λ e. cc)
     by_reading shallow Spent reads leaves = absurd leaves

@@ -4,7 +4,7 @@ use Rattle.std.specs.Borrow.{Bor}
 use Rattle.spl_tree.specs.declared.token.Token.{Token}
 use Rattle.expr_parser.specs.declared.stop.Stop.{Stop}
 use Rattle.expr_parser.specs.declared.stop.Stop.TheVariants as S
-use Rattle.expr_parser.specs.Rules.{call, Answer, Refused, RunsTo, Reads}
+use Rattle.expr_parser.specs.Rules.{call, RuleResult, Refused, RunsTo, Reads}
 use Rattle.spl_tree.specs.declared.expression.Step.{Step}
 use Rattle.spl_tree.specs.declared.symbol.Symbol.TheVariants as K
 use Rattle.spl_tree.specs.Trees.{Expr, Prefix}
@@ -30,14 +30,14 @@ front_rule (Some at) ps = call (Group at) (operand_rule ps)
 
 -- the operand gives what the rule after these prefixes gives
 abbrev pub Fronts : List Token → Result (List Prefix × Option ℕ × Bor (List Token)) Stop → Type 0
-Fronts ts (Ok found) = (o : Answer Expr) → RunsTo rule (front_rule found.1 found.0) found.2.now o → Reads rule (Prefixed []) ts o
+Fronts ts (Ok found) = (o : RuleResult Expr) → RunsTo rule (front_rule found.1 found.0) found.2.now o → Reads rule (Prefixed []) ts o
 Fronts ts (Err (S.At rest)) = Reads rule (Prefixed []) ts (Refused rest.now)
 Fronts ts (Err S.Memory) = Unit {0}
 
 abbrev pub StepFound : List Token → Option (Step Expr) → List Token → Type 0
 StepFound ts None rest = (begins_with (is K.Dot) ts ≡ false) × (begins_with (is K.LeftBracket) ts ≡ false) × (rest ≡ ts)
 StepFound ts (Some s) rest =
-    (length rest < length ts) × ((e : Expr) (ss : List (Step Expr)) (o : Answer Expr) → Reads rule (Steps e (ss ++ s ∷ [])) rest o → Reads rule (Steps e ss) ts o)
+    (length rest < length ts) × ((e : Expr) (ss : List (Step Expr)) (o : RuleResult Expr) → Reads rule (Steps e (ss ++ s ∷ [])) rest o → Reads rule (Steps e ss) ts o)
 
 -- one more step, whatever it is taken of, or none
 abbrev pub StepsOn : List Token → Answered (Option (Step Expr)) → Type 0

@@ -7,7 +7,7 @@ use Rattle.spl_tree.specs.declared.unit.HandledEvent.{HandledEvent}
 use Rattle.spl_tree.specs.declared.unit.Handler.{Handler}
 use Rattle.spl_tree.specs.declared.unit.Invocation.{Invocation}
 use Rattle.expr_parser.specs.declared.stop.Stop.TheVariants as S
-use Rattle.expr_parser.specs.Rules.{done, call, Answer, Took, Refused, RunsTo, Reads}
+use Rattle.expr_parser.specs.Rules.{done, call, RuleResult, Took, Refused, RunsTo, Reads}
 use Rattle.statement_parser.specs.Gives.{Answered}
 use Rattle.statement_parser.specs.Lines.{Handlers, HandlerOf, Graph, rule, R}
 
@@ -20,13 +20,13 @@ abbrev pub EventFirst : List Token → Option (ℕ × HandledEvent × Bor (List 
 EventFirst ts None = (hs : List (Placed Handler)) → Reads rule (Handlers hs) ts (Took hs ts)
 EventFirst ts (Some found) =
     (length found.2.now < length ts)
-    × ((hs : List (Placed Handler)) (o : Answer (List (Placed Handler))) → RunsTo rule (more_handlers found.0 found.1 hs) found.2.now o → Reads rule (Handlers hs) ts o)
+    × ((hs : List (Placed Handler)) (o : RuleResult (List (Placed Handler))) → RunsTo rule (more_handlers found.0 found.1 hs) found.2.now o → Reads rule (Handlers hs) ts o)
 
 -- one more invocation comes first, with these tokens after it, or no invocation does
 abbrev pub InvocationFound : List Token → Option Invocation → List Token → Type 0
 InvocationFound ts None rest = (xs : List Invocation) → Reads rule (Graph xs) ts (Took xs rest)
 InvocationFound ts (Some x) rest =
-    (length rest < length ts) × ((xs : List Invocation) (o : Answer (List Invocation)) → Reads rule (Graph (xs ++ x ∷ [])) rest o → Reads rule (Graph xs) ts o)
+    (length rest < length ts) × ((xs : List Invocation) (o : RuleResult (List Invocation)) → Reads rule (Graph (xs ++ x ∷ [])) rest o → Reads rule (Graph xs) ts o)
 
 -- one more invocation or none, or one is begun that doesn't go on
 abbrev pub InvocationsOn : List Token → Answered (Option Invocation) → Type 0

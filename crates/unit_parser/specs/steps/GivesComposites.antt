@@ -14,7 +14,7 @@ use Rattle.spl_tree.specs.declared.unit.HeadPort.{HeadPort}
 use Rattle.expr_parser.specs.declared.stop.Stop.{Stop}
 use Rattle.expr_parser.specs.declared.stop.Stop.TheVariants as S
 use Rattle.expr_parser.specs.Lines.{is}
-use Rattle.expr_parser.specs.Rules.{done, look, call, Answer, Took, Refused, RunsTo, Reads}
+use Rattle.expr_parser.specs.Rules.{done, look, call, RuleResult, Took, Refused, RunsTo, Reads}
 use Rattle.statement_parser.specs.Gives.{Answered}
 use Rattle.statement_parser.specs.Lines.{rule, R, expect, expect_word, CompositeOf, Definitions, FunctionOf, Namespace, Ports}
 
@@ -58,7 +58,7 @@ is_type_front t = begins_type t.kind
 abbrev pub DefinitionFound : List Token → Option Definition → List Token → Type 0
 DefinitionFound ts None rest = (xs : List Definition) → Reads rule (Definitions xs) ts (Took xs rest)
 DefinitionFound ts (Some x) rest =
-    (length rest < length ts) × ((xs : List Definition) (o : Answer (List Definition)) → Reads rule (Definitions (xs ++ x ∷ [])) rest o → Reads rule (Definitions xs) ts o)
+    (length rest < length ts) × ((xs : List Definition) (o : RuleResult (List Definition)) → Reads rule (Definitions (xs ++ x ∷ [])) rest o → Reads rule (Definitions xs) ts o)
 
 -- one more definition, whatever stands before it, or none
 abbrev pub DefinesOn : List Token → Answered (Option Definition) → Type 0
@@ -77,7 +77,7 @@ function_behind kind xs = call (FunctionOf kind) (λ x. call (Definitions (xs ++
 -- one definition comes first, whatever stands before it, as a rule has it that goes on with more
 abbrev pub Defines : (List Definition → R (List Definition)) → List Token → Answered (Option Definition) → Type 0
 Defines r ts (Ok (Some x, rest)) =
-    (length rest.now < length ts) × ((xs : List Definition) (o : Answer (List Definition)) → Reads rule (Definitions (xs ++ x ∷ [])) rest.now o → RunsTo rule (r xs) ts o)
+    (length rest.now < length ts) × ((xs : List Definition) (o : RuleResult (List Definition)) → Reads rule (Definitions (xs ++ x ∷ [])) rest.now o → RunsTo rule (r xs) ts o)
 Defines r ts (Ok (None, rest)) = ⊥
 Defines r ts (Err (S.At rest)) = (xs : List Definition) → RunsTo rule (r xs) ts (Refused rest.now)
 Defines r ts (Err S.Memory) = Unit {0}

@@ -2,7 +2,7 @@ use Rattle.std.proofs.Common.{◌∙◌, [], Err, length, refl, sym, ap, subst, 
 use Rattle.spl_tree.specs.declared.expression.ExprKind.TheVariants as X
 use Rattle.spl_tree.specs.Trees.{Expr, placed}
 use Rattle.spl_tree.specs.declared.symbol.Symbol.TheVariants as S
-use Rattle.expr_parser.specs.Rules.{done, Answer, Took, RunsTo, Reads}
+use Rattle.expr_parser.specs.Rules.{done, RuleResult, Took, RunsTo, Reads}
 use Rattle.expr_parser.specs.Lines.{binary, Whole, Rest, Climb, Chain, Prefixed, Primary, Group, Named, Elements, Items, Brace, Entries, Fields, Steps, expect, rule, choice_rule, operand_rule, list_rule}
 use Rattle.expr_parser.specs.Gives.{Gives}
 use Rattle.expr_parser.specs.steps.Parts.{Comes, front_rule, StepFound, StepsOn}
@@ -110,20 +110,20 @@ operand-returns-in_err-front t c =
 pub operand-returns-in_err-inner-in-Some : goal.operand-returns-in_err-inner-in-Some
 operand-returns-in_err-inner-in-Some t c =
     exit (Gives (Prefixed []) c.args.ts.now) c.from_residual-in_err-inner-in-Some.result c.in_err-inner-in-Some.field-0.0 c.from_residual-in_err-inner-in-Some.ensures.1
-    (says_on (subst (λ f. (o : Answer Expr) → RunsTo rule (front_rule f c.in_ok-front.front) c.in_ok-front.behind.now o → Reads rule (Prefixed []) c.args.ts.now o) c.in-Some.is c.in_ok-front.ensures) (Err c.in_err-inner-in-Some.field-0.0) (comes_fail c.in_ok-front.behind.now (Group c.in-Some.at) _ c.in_err-inner-in-Some.field-0.0 c.in_err-inner-in-Some.ensures))
+    (says_on (subst (λ f. (o : RuleResult Expr) → RunsTo rule (front_rule f c.in_ok-front.front) c.in_ok-front.behind.now o → Reads rule (Prefixed []) c.args.ts.now o) c.in-Some.is c.in_ok-front.ensures) (Err c.in_err-inner-in-Some.field-0.0) (comes_fail c.in_ok-front.behind.now (Group c.in-Some.at) _ c.in_err-inner-in-Some.field-0.0 c.in_err-inner-in-Some.ensures))
 
 pub operand-returns-in_ok-inner-in-Some : goal.operand-returns-in_ok-inner-in-Some
 operand-returns-in_ok-inner-in-Some t c =
-    says_on (subst (λ f. (o : Answer Expr) → RunsTo rule (front_rule f c.in_ok-front.front) c.in_ok-front.behind.now o → Reads rule (Prefixed []) c.args.ts.now o) c.in-Some.is c.in_ok-front.ensures) c.prefixed.result (comes_call c.in_ok-front.behind.now (Group c.in-Some.at) _ c.in_ok-inner-in-Some.inner c.in_ok-inner-in-Some.behind.now c.prefixed.result c.in_ok-inner-in-Some.ensures c.prefixed.ensures)
+    says_on (subst (λ f. (o : RuleResult Expr) → RunsTo rule (front_rule f c.in_ok-front.front) c.in_ok-front.behind.now o → Reads rule (Prefixed []) c.args.ts.now o) c.in-Some.is c.in_ok-front.ensures) c.prefixed.result (comes_call c.in_ok-front.behind.now (Group c.in-Some.at) _ c.in_ok-inner-in-Some.inner c.in_ok-inner-in-Some.behind.now c.prefixed.result c.in_ok-inner-in-Some.ensures c.prefixed.ensures)
 
 pub operand-returns-in_err-first-in-None : goal.operand-returns-in_err-first-in-None
 operand-returns-in_err-first-in-None t c =
     exit (Gives (Prefixed []) c.args.ts.now) c.from_residual-in_err-first-in-None.result c.in_err-first-in-None.field-0.0 c.from_residual-in_err-first-in-None.ensures.1
-    (says_on (subst (λ f. (o : Answer Expr) → RunsTo rule (front_rule f c.in_ok-front.front) c.in_ok-front.behind.now o → Reads rule (Prefixed []) c.args.ts.now o) c.in-None.is c.in_ok-front.ensures) (Err c.in_err-first-in-None.field-0.0) (comes_fail c.in_ok-front.behind.now Primary _ c.in_err-first-in-None.field-0.0 c.in_err-first-in-None.ensures))
+    (says_on (subst (λ f. (o : RuleResult Expr) → RunsTo rule (front_rule f c.in_ok-front.front) c.in_ok-front.behind.now o → Reads rule (Prefixed []) c.args.ts.now o) c.in-None.is c.in_ok-front.ensures) (Err c.in_err-first-in-None.field-0.0) (comes_fail c.in_ok-front.behind.now Primary _ c.in_err-first-in-None.field-0.0 c.in_err-first-in-None.ensures))
 
 pub operand-returns-in_ok-first-in-None : goal.operand-returns-in_ok-first-in-None
 operand-returns-in_ok-first-in-None t c =
-    says_on (subst (λ f. (o : Answer Expr) → RunsTo rule (front_rule f c.in_ok-front.front) c.in_ok-front.behind.now o → Reads rule (Prefixed []) c.args.ts.now o) c.in-None.is c.in_ok-front.ensures) c.prefixed-in-None.result (comes_call c.in_ok-front.behind.now Primary _ c.in_ok-first-in-None.first c.in_ok-first-in-None.behind.now c.prefixed-in-None.result c.in_ok-first-in-None.ensures c.prefixed-in-None.ensures)
+    says_on (subst (λ f. (o : RuleResult Expr) → RunsTo rule (front_rule f c.in_ok-front.front) c.in_ok-front.behind.now o → Reads rule (Prefixed []) c.args.ts.now o) c.in-None.is c.in_ok-front.ensures) c.prefixed-in-None.result (comes_call c.in_ok-front.behind.now Primary _ c.in_ok-first-in-None.first c.in_ok-first-in-None.behind.now c.prefixed-in-None.result c.in_ok-first-in-None.ensures c.prefixed-in-None.ensures)
 
 pub prefixed-returns-in_err-operand : goal.prefixed-returns-in_err-operand
 prefixed-returns-in_err-operand t c =

@@ -1,6 +1,6 @@
 use Rattle.std.proofs.Common.{◌+◌, ◌*◌, List, [], length}
 use Rattle.spl_tree.specs.Trees.{Expr}
-use Rattle.expr_parser.specs.Rules.{Answer, Reads}
+use Rattle.expr_parser.specs.Rules.{RuleResult, Reads}
 use Rattle.expr_parser.specs.Lines.{Chain, Items, Entries, Fields, Steps, rule}
 use Rattle.expr_parser.proofs.reading.+reader.Given as goal
 
@@ -62,31 +62,31 @@ abbrev pub decreases-chain : goal.decreases-chain
 decreases-chain l = l.depth * 64 + (11 + 2 * l.below)
 
 abbrev pub invariant-chain-operators : goal.invariant-chain-operators
-invariant-chain-operators l = (o : Answer Expr) → Reads rule (Chain l.below l.left) l.at o → Reads rule (Chain l.fn.below l.fn.left) l.fn.ts o
+invariant-chain-operators l = (o : RuleResult Expr) → Reads rule (Chain l.below l.left) l.at o → Reads rule (Chain l.fn.below l.fn.left) l.fn.ts o
 
 abbrev pub decreases-chain-operators : goal.decreases-chain-operators
 decreases-chain-operators l = length l.at
 
 abbrev pub invariant-items-items : goal.invariant-items-items
-invariant-items-items l = (o : Answer (List Expr)) → Reads rule (Items l.close l.all) l.at o → Reads rule (Items l.fn.close []) l.fn.ts o
+invariant-items-items l = (o : RuleResult (List Expr)) → Reads rule (Items l.close l.all) l.at o → Reads rule (Items l.fn.close []) l.fn.ts o
 
 abbrev pub decreases-items-items : goal.decreases-items-items
 decreases-items-items l = length l.at
 
 abbrev pub invariant-entries-entries : goal.invariant-entries-entries
-invariant-entries-entries l = (o : Answer Expr) → Reads rule (Entries l.at l.all l.key) l.left o → Reads rule (Entries l.fn.at [] l.fn.key) l.fn.ts o
+invariant-entries-entries l = (o : RuleResult Expr) → Reads rule (Entries l.at l.all l.key) l.left o → Reads rule (Entries l.fn.at [] l.fn.key) l.fn.ts o
 
 abbrev pub decreases-entries-entries : goal.decreases-entries-entries
 decreases-entries-entries l = length l.left
 
 abbrev pub invariant-fields-fields : goal.invariant-fields-fields
-invariant-fields-fields l = (o : Answer Expr) → Reads rule (Fields l.at l.all l.name) l.left o → Reads rule (Fields l.fn.at [] l.fn.name) l.fn.ts o
+invariant-fields-fields l = (o : RuleResult Expr) → Reads rule (Fields l.at l.all l.name) l.left o → Reads rule (Fields l.fn.at [] l.fn.name) l.fn.ts o
 
 abbrev pub decreases-fields-fields : goal.decreases-fields-fields
 decreases-fields-fields l = length l.left
 
 abbrev pub invariant-steps-steps : goal.invariant-steps-steps
-invariant-steps-steps l = (o : Answer Expr) → Reads rule (Steps l.primary l.all) l.at o → Reads rule (Steps l.fn.primary []) l.fn.ts o
+invariant-steps-steps l = (o : RuleResult Expr) → Reads rule (Steps l.primary l.all) l.at o → Reads rule (Steps l.fn.primary []) l.fn.ts o
 
 abbrev pub decreases-steps-steps : goal.decreases-steps-steps
 decreases-steps-steps l = length l.at

@@ -4,7 +4,7 @@ use Rattle.spl_tree.specs.declared.symbol.Symbol.TheVariants as S
 use Rattle.spl_tree.specs.declared.token.Token.{Token}
 use Rattle.spl_tree.specs.Trees.{Expr, TypeExpr}
 use Rattle.std.proofs.Common.{List}
-use Rattle.expr_parser.specs.Rules.{done, Answer, RunsTo, Reads}
+use Rattle.expr_parser.specs.Rules.{done, RuleResult, RunsTo, Reads}
 use Rattle.statement_parser.proofs.Readings.{finished, reads, taken, skipped, fails}
 use Rattle.statement_parser.proofs.StatementReadings.{part_read, part_fails}
 use Rattle.statement_parser.proofs.TypeReadings.{goes}
@@ -12,7 +12,7 @@ use Rattle.statement_parser.specs.Lines as lines
 use Rattle.statement_parser.specs.Lines.{Name, R, Valued, declared, expect, rule, valued_rule}
 use Rattle.statement_parser.proofs.declarations.valued.Goals as goal
 
-valued_read : {m : Bool} {k : TypeExpr} {n : Name} {ts : List Token} {o : Answer Declaration} → RunsTo rule (valued_rule m k n) ts o → Reads rule (Valued m k n) ts o
+valued_read : {m : Bool} {k : TypeExpr} {n : Name} {ts : List Token} {o : RuleResult Declaration} → RunsTo rule (valued_rule m k n) ts o → Reads rule (Valued m k n) ts o
 unfolding rule
 valued_read r = reads r
 

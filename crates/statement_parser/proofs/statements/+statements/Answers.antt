@@ -1,5 +1,5 @@
 use Rattle.std.proofs.Common.{ℕ, Bool, true, false, List, [], ◌∷◌, ◌++◌, Some, None, subst, arith}
-use Rattle.expr_parser.specs.Rules.{done, call, Answer, Took, RunsTo, Reads}
+use Rattle.expr_parser.specs.Rules.{done, call, RuleResult, Took, RunsTo, Reads}
 use Rattle.spl_tree.specs.declared.shape.Attribute.{Attribute}
 use Rattle.spl_tree.specs.declared.statement.StmtKind.TheVariants as Z
 use Rattle.spl_tree.specs.declared.token.Token.{Token}
@@ -119,7 +119,7 @@ other-returns-in-None t c =
 abbrev armed : ℕ → List (Expr × Stmt) → Expr → R (Stmt × Bool)
 armed at arms e = call Statement (λ s. lines.arms_end at (arms ++ (e, s.0) ∷ []) s.1)
 
-arms_read : {at : ℕ} {arms : List (Expr × Stmt)} {ts : List Token} {o : Answer (Stmt × Bool)} → RunsTo rule (lines.arms_rule at arms) ts o → Reads rule (Arms at arms) ts o
+arms_read : {at : ℕ} {arms : List (Expr × Stmt)} {ts : List Token} {o : RuleResult (Stmt × Bool)} → RunsTo rule (lines.arms_rule at arms) ts o → Reads rule (Arms at arms) ts o
 unfolding lines.rule
 arms_read r = reads r
 

@@ -1,6 +1,6 @@
 use Rattle.std.proofs.Common.{◌+◌, ◌*◌, Bool, List, [], length}
 use Rattle.spl_tree.specs.Trees.{Stmt}
-use Rattle.expr_parser.specs.Rules.{Answer, Reads}
+use Rattle.expr_parser.specs.Rules.{RuleResult, Reads}
 use Rattle.statement_parser.specs.Lines.{Arms, Statements, rule}
 use Rattle.statement_parser.proofs.statements.+statements.Given as goal
 
@@ -32,13 +32,13 @@ abbrev pub decreases-statements : goal.decreases-statements
 decreases-statements l = l.depth * 8 + 6
 
 abbrev pub invariant-statements-statements : goal.invariant-statements-statements
-invariant-statements-statements l = (o : Answer (List Stmt)) → Reads rule (Statements l.all) l.at o → Reads rule (Statements []) l.fn.ts o
+invariant-statements-statements l = (o : RuleResult (List Stmt)) → Reads rule (Statements l.all) l.at o → Reads rule (Statements []) l.fn.ts o
 
 abbrev pub decreases-statements-statements : goal.decreases-statements-statements
 decreases-statements-statements l = length l.at
 
 abbrev pub invariant-arms-arms : goal.invariant-arms-arms
-invariant-arms-arms l = (o : Answer (Stmt × Bool)) → Reads rule (Arms l.fn.at l.all) l.left o → Reads rule (Arms l.fn.at []) l.fn.ts o
+invariant-arms-arms l = (o : RuleResult (Stmt × Bool)) → Reads rule (Arms l.fn.at l.all) l.left o → Reads rule (Arms l.fn.at []) l.fn.ts o
 
 abbrev pub decreases-arms-arms : goal.decreases-arms-arms
 decreases-arms-arms l = length l.left

@@ -1,7 +1,7 @@
 use Rattle.std.proofs.Common.{◌+◌, ◌*◌, List, length}
 use Rattle.spl_tree.specs.declared.shape.Attribute.{Attribute}
 use Rattle.spl_tree.specs.Trees.{TypeExpr}
-use Rattle.expr_parser.specs.Rules.{Answer, Reads}
+use Rattle.expr_parser.specs.Rules.{RuleResult, Reads}
 use Rattle.statement_parser.specs.Lines.{MoreAttributes, rule}
 use Rattle.statement_parser.proofs.types.+types.Given as goal
 
@@ -34,7 +34,7 @@ decreases-tuple_type l = l.depth * 8 + 4
 
 abbrev pub invariant-more_attributes-attributes : goal.invariant-more_attributes-attributes
 invariant-more_attributes-attributes l =
-    (o : Answer (List (Attribute TypeExpr))) → Reads rule (MoreAttributes l.close l.all) l.at o → Reads rule (MoreAttributes l.fn.close l.fn.first) l.fn.ts o
+    (o : RuleResult (List (Attribute TypeExpr))) → Reads rule (MoreAttributes l.close l.all) l.at o → Reads rule (MoreAttributes l.fn.close l.fn.first) l.fn.ts o
 
 abbrev pub decreases-more_attributes-attributes : goal.decreases-more_attributes-attributes
 decreases-more_attributes-attributes l = length l.at

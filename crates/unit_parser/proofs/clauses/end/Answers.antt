@@ -6,7 +6,7 @@ use Rattle.spl_tree.specs.declared.unit.Logic.{Logic}
 use Rattle.spl_tree.specs.declared.unit.OutputAssignments.{OutputAssignments}
 use Rattle.spl_tree.specs.declared.unit.Parameter.{Parameter}
 use Rattle.spl_tree.specs.declared.unit.PortWindow.{PortWindow}
-use Rattle.expr_parser.specs.Rules.{done, Answer, RunsTo, Reads}
+use Rattle.expr_parser.specs.Rules.{done, RuleResult, RunsTo, Reads}
 use Rattle.spl_tree.specs.declared.symbol.Symbol.TheVariants as S
 use Rattle.unit_parser.specs.steps.GivesParts.{logic_and_window, param_to_config}
 use Rattle.statement_parser.specs.Lines as lines
@@ -24,7 +24,7 @@ abbrev windowed : Option (Placed Logic) × Option (Placed (List PortWindow)) →
 windowed a = behind param_to_config (closed a)
 
 -- what its rule gives
-end_read : {ts : List Token} {o : Answer Clauses} → RunsTo rule lines.end_rule ts o → Reads rule lines.End ts o
+end_read : {ts : List Token} {o : RuleResult Clauses} → RunsTo rule lines.end_rule ts o → Reads rule lines.End ts o
 unfolding lines.rule
 end_read r = reads r
 

@@ -5,7 +5,7 @@ use Rattle.spl_tree.specs.declared.token.Token.{Token}
 use Rattle.spl_tree.specs.declared.unit.Invocation.{Invocation}
 use Rattle.spl_tree.specs.declared.unit.OutputStream.{OutputStream}
 use Rattle.std.specs.Prelude.{Option}
-use Rattle.expr_parser.specs.Rules.{done, call, Answer, Refused, Reads, RunsTo}
+use Rattle.expr_parser.specs.Rules.{done, call, RuleResult, Refused, Reads, RunsTo}
 use Rattle.statement_parser.specs.Gives.{Comes}
 use Rattle.unit_parser.specs.steps.GivesClauses.{InvocationsOn}
 use Rattle.statement_parser.specs.Lines.{Name, R}
@@ -22,7 +22,7 @@ head_behind at xs h = call (lines.Invoked at h.0 h.1) (λ x. call (lines.Graph (
 
 -- an invocation is begun and doesn't go on
 stops : (ts mid : List Token) (r : List Invocation → R (List Invocation)) (e : Stop)
-    → ((xs : List Invocation) (o : Answer (List Invocation)) → RunsTo lines.rule (r xs) mid o → Reads lines.rule (lines.Graph xs) ts o)
+    → ((xs : List Invocation) (o : RuleResult (List Invocation)) → RunsTo lines.rule (r xs) mid o → Reads lines.rule (lines.Graph xs) ts o)
     → ((xs : List Invocation) → Comes (r xs) mid (Err e)) → InvocationsOn ts (Err e)
 stops ts mid r (S.At rest) on c = λ xs. on xs (Refused rest.now) (c xs)
 stops ts mid r S.Memory on c = tt

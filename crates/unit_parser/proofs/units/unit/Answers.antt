@@ -2,7 +2,7 @@ use Rattle.std.proofs.Common.{List, []}
 use Rattle.spl_tree.specs.declared.keyword.Keyword.TheVariants as K
 use Rattle.spl_tree.specs.declared.token.Token.{Token}
 use Rattle.spl_tree.specs.declared.unit.Definition.{Definition}
-use Rattle.expr_parser.specs.Rules.{call, done, look, Answer, RunsTo, Reads}
+use Rattle.expr_parser.specs.Rules.{call, done, look, RuleResult, RunsTo, Reads}
 use Rattle.statement_parser.proofs.Readings.{reads, taken, skipped, line_read, says_on, fails, line_fails}
 use Rattle.unit_parser.proofs.DefinitionReadings.{names_stopped}
 use Rattle.statement_parser.specs.Lines as lines
@@ -10,7 +10,7 @@ use Rattle.statement_parser.specs.Lines.{rule, is_word}
 use Rattle.unit_parser.proofs.units.unit.Goals as goal
 use Rattle.expr_parser.proofs.RuleLaws.{runs_last}
 
-unit_read : {ts : List Token} {o : Answer (List Definition)}
+unit_read : {ts : List Token} {o : RuleResult (List Definition)}
     → RunsTo rule (look (is_word K.Namespace) (λ _. call lines.Namespace (λ _. call (lines.Definitions []) done)) (call (lines.Definitions []) done)) ts o → Reads rule lines.Whole ts o
 unfolding lines.rule
 unit_read r = reads r
