@@ -20,7 +20,7 @@ pub struct RunFiles {
 }
 
 // The sinks of a graph, in the order of the operators: each writes what the operator with its number
-// gives. It also says what a checked graph keeps.
+// gives.
 fn sinks_of(alloc: Global, checked: &Checked) -> Result<Items<Sink>, NoMemory>
     ensures sinks { IfOk result (λ sinks. sinks ≡ sinks_of checked.now) }
 {
