@@ -10,9 +10,9 @@ use spl_tree::Tokens;
 use std::alloc::Global;
 use token_weights::too_deep;
 
-/// How deep expressions may nest in one another: deeper than the weights of ordinary programs allow.
-/// The stack is memory.
-pub(crate) const MOST_NESTED: u32 = 256;
+/// How deep expressions may nest in one another, and so types and statements: deeper than the weights
+/// of ordinary programs allow. The stack is memory.
+pub const MOST_NESTED: u32 = 256;
 
 /// The byte at which that token of the list begins, or the program's end where there is none.
 pub fn place_of(tokens: &Tokens, at: usize) -> u32
