@@ -58,7 +58,7 @@ use Rattle.aggregate_op.specs.declared.clauses.Clauses.{Clauses}
 use Rattle.port_reacts.specs.Evaluation.{idle}
 use Rattle.aggregate_op.specs.Arguments.{blank}
 use Rattle.aggregate_op.specs.steps.Arguments.{ArgumentFits, ArgumentsFit}
-use Rattle.aggregate_op.specs.Standing.{AggregateStands, came_into, operator_of, key_of_tuple, tuple_behind}
+use Rattle.aggregate_op.specs.Standing.{AggregateStands, came_into, operator_of, key_of_tuple, tuple_with_arguments}
 use Rattle.aggregate_op.specs.steps.Firing.{MayCome, events_after, item_makes, tuple_event}
 use Rattle.aggregate_op.specs.steps.Giving.{contents_given}
 use Rattle.port_reacts.proofs.Answering.{both_out, where_out}
@@ -232,28 +232,28 @@ module _ (clauses : Clauses) (fit : IsFitting (operator_of clauses))
   width_is : clauses.width ≡ length own.input
   width_is = wide ∙ ap length (ap (λ ins. unwrap_or (slice_get ins 0) []) own.takes)
 
-  keep : (t : List Value) → OwnRight t → Keeps rule (tuple_behind clauses) t
+  keep : (t : List Value) → OwnRight t → Keeps rule (tuple_with_arguments clauses) t
   keep t right =
-      keeps own.input rule own.window_fits (tuple_behind clauses) (λ u. map blank (done_or_none (arguments op.functions clauses.output.now (at_tuple u) most_turns))) t refl right.long
+      keeps own.input rule own.window_fits (tuple_with_arguments clauses) (λ u. map blank (done_or_none (arguments op.functions clauses.output.now (at_tuple u) most_turns))) t refl right.long
 
   module _ (earlier : List Item) (rights : AllByRecursion (ItemIs OwnRight) earlier) where
     abbrev events : List WindowEvent
     events = window_events (key_of_tuple clauses) earlier
 
     abbrev held : List WindowEvent
-    held = mapped (tuple_behind clauses) events
+    held = mapped (tuple_with_arguments clauses) events
 
-    keep_events : AllKeep rule (tuple_behind clauses) events
-    keep_events = keep_inserted OwnRight rule (tuple_behind clauses) keep events (inserted_of OwnRight (key_of_tuple clauses) earlier rights)
+    keep_events : AllKeep rule (tuple_with_arguments clauses) events
+    keep_events = keep_inserted OwnRight rule (tuple_with_arguments clauses) keep events (inserted_of OwnRight (key_of_tuple clauses) earlier rights)
 
-    contents_tie : (x : Item) → ItemIs OwnRight x → (e : WindowEvent) → AllKeep rule (tuple_behind clauses) (e ∷ events) → fired_at rule (key_of_tuple clauses) x earlier ≡ fired_contents rule e events
+    contents_tie : (x : Item) → ItemIs OwnRight x → (e : WindowEvent) → AllKeep rule (tuple_with_arguments clauses) (e ∷ events) → fired_at rule (key_of_tuple clauses) x earlier ≡ fired_contents rule e events
         → fired_give op.functions clauses.window.now clauses.partition.now clauses.group.now clauses.output.now earlier x
-        ≡ contents_given clauses (fired_contents rule (mapped_event (tuple_behind clauses) e) held)
+        ≡ contents_given clauses (fired_contents rule (mapped_event (tuple_with_arguments clauses) e) held)
     contents_tie x right e keeps_all fires =
         contents_are op.functions fit.scope own.schema clauses.output.now own.groups (length own.input) clauses refl width_is clauses.group.now refl
         (keys_below own.input clauses.group.now own.group_fits) (fired_at rule (key_of_tuple clauses) x earlier) (all_fired OwnRight rule (key_of_tuple clauses) x earlier right rights)
-        ∙ ap (λ cs. contents_given clauses (map (map (tuple_behind clauses)) cs)) fires
-        ∙ ap (contents_given clauses) (sym ((mapped_firing_law rule (tuple_behind clauses) events).1 e keeps_all))
+        ∙ ap (λ cs. contents_given clauses (map (map (tuple_with_arguments clauses)) cs)) fires
+        ∙ ap (contents_given clauses) (sym ((mapped_firing_law rule (tuple_with_arguments clauses) events).1 e keeps_all))
 
     tuple_tie : (t : List Value) → OwnRight t → fired_give op.functions clauses.window.now clauses.partition.now clauses.group.now clauses.output.now earlier (I.Tuple t)
         ≡ contents_given clauses (fired_contents rule (tuple_event clauses t) held)
@@ -307,7 +307,7 @@ module _ (clauses : Clauses) (fit : IsFitting (operator_of clauses))
 -- ---- events
 
 behind_is : (clauses : Clauses) (x : Item) (items : List Item)
-    → events_after clauses x (mapped (tuple_behind clauses) (window_events (key_of_tuple clauses) items)) ≡ mapped (tuple_behind clauses) (window_events (key_of_tuple clauses) (x ∷ items))
+    → events_after clauses x (mapped (tuple_with_arguments clauses) (window_events (key_of_tuple clauses) items)) ≡ mapped (tuple_with_arguments clauses) (window_events (key_of_tuple clauses) (x ∷ items))
 behind_is clauses (I.Tuple t) items = refl
 behind_is clauses I.Window items = refl
 behind_is clauses I.Final items = refl

@@ -1,5 +1,5 @@
--- The histories by ports that an Aggregate stands for: its window stands for what came on its port, where each tuple has the values of its
--- arguments after it.
+-- The histories by ports that an Aggregate represents: its window represents what came on its port, where each tuple has the values of
+-- its arguments after it.
 use Rattle.std.specs.Prelude.{◌≡◌, true, List, length}
 use Rattle.spl_value.specs.declared.value.Value.{Value}
 use Rattle.language_model.specs.declared.checked.CheckedClauses.TheVariants as A
@@ -17,12 +17,12 @@ use Rattle.aggregate_op.specs.declared.clauses.Clauses.{Clauses}
 use Rattle.port_reacts.specs.Evaluation.{idle}
 use Rattle.aggregate_op.specs.Arguments.{extended}
 
--- the key of a tuple, and the tuple as it goes into the window
+-- the key of a tuple, and the tuple as it goes into the window, with its arguments after its own values
 abbrev pub key_of_tuple : Clauses → List Value → List Value
 key_of_tuple clauses t = partition_key clauses.window.now clauses.partition.now t
 
-abbrev pub tuple_behind : Clauses → List Value → List Value
-tuple_behind clauses t = extended clauses.at.checked.now.functions clauses.output.now t
+abbrev pub tuple_with_arguments : Clauses → List Value → List Value
+tuple_with_arguments clauses t = extended clauses.at.checked.now.functions clauses.output.now t
 
 -- the operator with these clauses
 abbrev pub operator_of : Clauses → Operator
@@ -30,7 +30,7 @@ operator_of clauses = operator_with clauses.at.checked.now clauses.at.number cla
 
 -- what came into the window
 abbrev pub came_into : Clauses → List Event → List WindowEvent
-came_into clauses h = mapped (tuple_behind clauses) (window_events (key_of_tuple clauses) (items_of 0 h))
+came_into clauses h = mapped (tuple_with_arguments clauses) (window_events (key_of_tuple clauses) (items_of 0 h))
 
 -- while the operator hasn't ended by a fault, the window stands, and no tuple is in the environment
 pub record AggregateStands (clauses : Clauses) (w : Window) (env : Env) (h : List Event) : Type 0 where

@@ -7,7 +7,7 @@ use Rattle.circular_buffer.specs.Buffer.{last_item}
 use Rattle.spl_value.specs.declared.value.Value.{Value}
 use Rattle.spl_value.proofs.Lists.{get_below}
 use Rattle.stream_model.specs.Windows.{integer_at}
-use Rattle.window_policy.specs.Deltas.{RisesBehind, Rises}
+use Rattle.window_policy.specs.Deltas.{RisesAfter, Rises}
 use Rattle.window_policy.specs.steps.Deltas.{is_left, passed}
 
 -- ---- where the attribute rises
@@ -16,7 +16,7 @@ higher : (limit new x y : ℤ) → not (int_lt limit (new -ℤ x)) ≡ true → 
 higher limit new x y a b = grind (arith, ints)
 
 module _ (a : ℕ) (limit new : ℤ) where
-  all_stay : (t : List Value) (ts : List (List Value)) → is_left a limit new t ≡ true → RisesBehind a t ts → filter (is_left a limit new) ts ≡ ts
+  all_stay : (t : List Value) (ts : List (List Value)) → is_left a limit new t ≡ true → RisesAfter a t ts → filter (is_left a limit new) ts ≡ ts
   all_stay t [] stays rises = refl
   all_stay t (u ∷ us) stays rises =
       let next : is_left a limit new u ≡ true = higher limit new (integer_at a t) (integer_at a u) stays rises.0 in
@@ -24,7 +24,7 @@ module _ (a : ℕ) (limit new : ℤ) where
       ∙ ap (λ zs. u ∷ zs) (all_stay u us next rises.1)
 
   -- where the first tuple stays, all do
-  pub front_stays : (t : List Value) (ts : List (List Value)) → is_left a limit new t ≡ true → RisesBehind a t ts → filter (is_left a limit new) (t ∷ ts) ≡ t ∷ ts
+  pub front_stays : (t : List Value) (ts : List (List Value)) → is_left a limit new t ≡ true → RisesAfter a t ts → filter (is_left a limit new) (t ∷ ts) ≡ t ∷ ts
   front_stays t ts stays rises =
       ap (λ b. cond b (t ∷ filter (is_left a limit new) ts) (filter (is_left a limit new) ts)) stays
       ∙ ap (λ zs. t ∷ zs) (all_stay t ts stays rises)
@@ -32,7 +32,7 @@ module _ (a : ℕ) (limit new : ℤ) where
   pub front_goes : (t : List Value) (ts : List (List Value)) → is_left a limit new t ≡ false → filter (is_left a limit new) (t ∷ ts) ≡ filter (is_left a limit new) ts
   front_goes t ts goes = ap (λ b. cond b (t ∷ filter (is_left a limit new) ts) (filter (is_left a limit new) ts)) goes
 
-  tail_rises : (t : List Value) (ts : List (List Value)) → RisesBehind a t ts → Rises a ts
+  tail_rises : (t : List Value) (ts : List (List Value)) → RisesAfter a t ts → Rises a ts
   tail_rises t [] rises = tt
   tail_rises t (u ∷ us) rises = rises.1
 

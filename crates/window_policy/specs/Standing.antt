@@ -1,4 +1,4 @@
--- The histories that a window stands for: those by which it holds for each key what the window of the key holds, and knows the keys
+-- The histories that a window represents: those by which it holds for each key what the window of the key holds, and knows the keys
 -- that came. Their newest event is first.
 use Rattle.std.specs.Prelude.{List, ◌≡◌, is_some}
 use Rattle.indexmap.specs.IndexMap.{get}

@@ -13,11 +13,11 @@ use Rattle.window_policy.specs.declared.window.Window.{Window}
 use Rattle.window_policy.specs.Standing.{Stands}
 use Rattle.aggregate_op.specs.declared.clauses.Clauses.{Clauses}
 use Rattle.aggregate_op.specs.steps.Arguments.{ArgumentsFit}
-use Rattle.aggregate_op.specs.Standing.{key_of_tuple, tuple_behind}
+use Rattle.aggregate_op.specs.Standing.{key_of_tuple, tuple_with_arguments}
 use Rattle.aggregate_op.specs.steps.Giving.{contents_given}
 
 abbrev pub tuple_event : Clauses → List Value → WindowEvent
-tuple_event clauses t = Insert (key_of_tuple clauses t) (tuple_behind clauses t)
+tuple_event clauses t = Insert (key_of_tuple clauses t) (tuple_with_arguments clauses t)
 
 -- the contents with which an event of the window fires give something
 abbrev pub EventGives : Clauses → Window → WindowEvent → Type 0
