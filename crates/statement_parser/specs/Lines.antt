@@ -297,11 +297,11 @@ lifted stop = stop
 lifted (look p f d) = look p (λ t. lifted (f t)) (lifted d)
 lifted (call x k) = call (Expression x) (λ y. lifted (k y))
 
--- an expression and that symbol after it, also with a symbol before it
+-- an expression and that symbol after it
 abbrev pub expression_before : Symbol → R Expr
 expression_before s = expression (λ e. expect s (done e))
 
--- the same of a type
+-- a type and that symbol after it, also with a symbol before it
 abbrev pub type_before : Symbol → R TypeExpr
 type_before s = call TypeExpression (λ k. expect s (done k))
 

@@ -7,6 +7,7 @@ use Rattle.spl_tree.specs.Trees.{Expr, placed, TypeExpr, Shape}
 use Rattle.expr_parser.specs.Rules.{done, call}
 use Rattle.statement_parser.specs.Lines.{R, TypeExpression, MoreAttributes, expect, expect_name, expression_before}
 
+-- an expression between two symbols
 abbrev pub expression_between : Symbol → Symbol → R Expr
 expression_between opening close = expect opening (expression_before close)
 
