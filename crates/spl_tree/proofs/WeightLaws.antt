@@ -40,7 +40,8 @@ after_closing-within : (most : ℕ) (brace next_adds : Bool) (d : Weighing) (ope
 after_closing-within most brace next_adds d [] within below = record { weight = omega arith; opened = Below-more most d.opened within.opened }
 after_closing-within most true false d (before ∷ outer) within below =
     record { weight = omega (arith, level_start-le most outer below.1); opened = Below-more most outer below.1 }
-after_closing-within most _ _ d (before ∷ outer) within below = record { weight = omega arith; opened = Below-more most outer below.1 }
+after_closing-within most true true d (before ∷ outer) within below = record { weight = omega arith; opened = Below-more most outer below.1 }
+after_closing-within most false next_adds d (before ∷ outer) within below = record { weight = omega arith; opened = Below-more most outer below.1 }
 
 -- a token adds at most 1
 after_token-within : (most : ℕ) (e : Effect) (next_adds : Bool) (d : Weighing) → Within most d → Within (most + 1) (after_token e next_adds d)

@@ -1,5 +1,5 @@
 -- The weights of tokens: how many brackets and operators are open at each.
-use Rattle.std.specs.Prelude.{ℕ, ◌+◌, nat_lt, Bool, true, false, List, [], ◌∷◌, drop, position, Option}
+use Rattle.std.specs.Prelude.{ℕ, ◌+◌, nat_lt, Bool, true, false, ◌&&◌, not, List, [], ◌∷◌, if◌then◌else◌, drop, position, Option}
 use Rattle.std.specs.List.{position_from}
 use Rattle.spl_tree.specs.declared.token.Token.{Token}
 use Rattle.spl_tree.specs.declared.token.TokenKind.{TokenKind}
@@ -66,8 +66,7 @@ pub record Weighing : Type 0 where
 -- stands in
 abbrev pub after_closing : (brace next_adds : Bool) → Weighing → Opened → Weighing
 after_closing brace next_adds d [] = d
-after_closing true false d (before ∷ outer) = record { weight = level_start outer; opened = outer }
-after_closing _ _ d (before ∷ outer) = record { weight = before; opened = outer }
+after_closing brace next_adds d (before ∷ outer) = record { weight = if brace && not next_adds then level_start outer else before; opened = outer }
 
 abbrev pub after_token : Effect → (next_adds : Bool) → Weighing → Weighing
 after_token Nothing next_adds d = d
