@@ -38,7 +38,9 @@ use Rattle.stream_model.specs.Stream.{Event, came}
 use Rattle.stream_model.specs.Operators.{Operator, input_attributes}
 use Rattle.stream_model.specs.PortEvents.{items_of}
 use Rattle.stream_model.specs.Bodies.{Makes, at_tuple, most_turns}
-use Rattle.stream_model.specs.Aggregates.{aggregate_body, arguments, done_or_none, fired_give, marker_passed}
+use Rattle.stream_model.specs.Aggregates.{aggregate_body, arguments, fired_give}
+use Rattle.stream_model.proofs.parts.Aggregates.{done_or_none}
+use Rattle.stream_model.specs.parts.Aggregates.{marker_passed}
 use Rattle.stream_model.specs.React.{answer, makes_by}
 use Rattle.stream_model.specs.Replies.{IsTaken, ItemHas, OutsFit}
 use Rattle.stream_model.specs.Windows.{WindowEvent, Insert, Mark, fired_at, integer_at, fired_contents, window_events}

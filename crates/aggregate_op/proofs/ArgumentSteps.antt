@@ -7,7 +7,8 @@ use Rattle.spl_tree.specs.declared.body.Function.{Function}
 use Rattle.language_model.specs.declared.checked.CollectedAttribute.{CollectedAttribute}
 use Rattle.language_model.specs.declared.env.Env.{Env}
 use Rattle.language_model.specs.Outcomes.{Outcome, Done, Faulted, Stuck, followed}
-use Rattle.stream_model.specs.Aggregates.{argument, arguments}
+use Rattle.stream_model.specs.Aggregates.{arguments}
+use Rattle.stream_model.specs.parts.Aggregates.{argument}
 use Rattle.aggregate_op.specs.Arguments.{blank}
 
 one_behind : (o : Outcome (List (Option Value))) (args : List (Option Value)) (a : Option Value)

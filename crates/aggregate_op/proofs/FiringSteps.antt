@@ -4,7 +4,8 @@ use Rattle.spl_value.specs.declared.value.Value.{Value}
 use Rattle.spl_tree.specs.declared.body.Function.{Function}
 use Rattle.language_model.specs.declared.checked.CollectedAttribute.{CollectedAttribute}
 use Rattle.language_model.specs.Outcomes.{Done}
-use Rattle.stream_model.specs.Aggregates.{arguments, done_or_none}
+use Rattle.stream_model.specs.Aggregates.{arguments}
+use Rattle.stream_model.proofs.parts.Aggregates.{done_or_none}
 use Rattle.stream_model.specs.Bodies.{at_tuple, most_turns}
 use Rattle.aggregate_op.specs.Arguments.{blank, extended}
 

@@ -20,7 +20,9 @@ use Rattle.language_model.specs.Evaluation.{tuple_of}
 use Rattle.language_model.specs.Keeping.{CollectorFits, GroupsFit}
 use Rattle.language_model.specs.Keeping as G
 use Rattle.language_model.specs.StreamTypes.{Attributes}
-use Rattle.stream_model.specs.Aggregates.{arguments_of, attributes_from, collected, contents_give, group_tuple, marker_after, tuples_of, values_of}
+use Rattle.stream_model.specs.Aggregates.{attributes_from, collected, contents_give, tuples_of, values_of}
+use Rattle.stream_model.specs.parts.Aggregates.{arguments_of, marker_after}
+use Rattle.stream_model.proofs.parts.Aggregates.{group_tuple}
 use Rattle.stream_model.specs.Bodies.{on_first}
 use Rattle.stream_model.specs.Groups.{groups}
 use Rattle.stream_model.proofs.ContentMembers.{AllTuples, EntryIs, IsGroup, all_groups}

@@ -4,7 +4,7 @@ use Rattle.spl_value.specs.declared.value.Value.{Value}
 use Rattle.spl_value.specs.declared.value.Value.TheVariants as V
 use Rattle.spl_tree.specs.declared.body.Function.{Function}
 use Rattle.language_model.specs.declared.checked.CollectedAttribute.{CollectedAttribute}
-use Rattle.stream_model.specs.Aggregates.{arguments_of}
+use Rattle.stream_model.specs.parts.Aggregates.{arguments_of}
 
 -- a value stands where there is no argument
 abbrev pub blank : Option Value → Value

@@ -1,7 +1,8 @@
 //! The arguments of an Aggregate's assignments.
 ghost use Rattle.std.specs.Prelude.{◌≡◌, ◌++◌, IfOk, List};
 ghost use Rattle.spl_value.specs.declared.value.Value.{Value as V};
-ghost use Rattle.stream_model.specs.Aggregates.{argument as argument_of, arguments as arguments_of};
+ghost use Rattle.stream_model.specs.Aggregates.{arguments as arguments_of};
+ghost use Rattle.stream_model.specs.parts.Aggregates.{argument as argument_of};
 ghost use Rattle.stream_model.specs.Bodies.{at_tuple, most_turns};
 ghost use Rattle.value_operations.specs.Answers.{Answers};
 ghost use Rattle.port_reacts.specs.Evaluation.{idle};

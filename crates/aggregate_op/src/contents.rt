@@ -3,7 +3,7 @@ ghost use Rattle.std.specs.Prelude.{◌≡◌, ◌++◌, [], IfOk, List, Some, m
 ghost use Rattle.spl_value.specs.declared.item.Item.TheVariants as I;
 ghost use Rattle.spl_value.specs.declared.value.Value.{Value as V};
 ghost use Rattle.language_model.specs.declared.outs.Output.{Output as O};
-ghost use Rattle.stream_model.specs.Aggregates.{marker_after};
+ghost use Rattle.stream_model.specs.parts.Aggregates.{marker_after};
 ghost use Rattle.stream_model.specs.Bodies.{on_first};
 ghost use Rattle.stream_model.specs.Groups.{groups as groups_of};
 ghost use Rattle.tuple_groups.specs.Seen.{entry_of, seen};

@@ -10,7 +10,8 @@ use Rattle.language_model.specs.declared.checked.CheckedClauses.{CheckedClauses}
 use Rattle.language_model.specs.CheckedGraph.{CheckedGraph}
 use Rattle.language_model.specs.Keeping.{Keeps}
 use Rattle.stream_model.specs.declared.record.ArrivalList.{ArrivalList}
-use Rattle.stream_model.specs.Arrivals.{has_several, if_several, several}
+use Rattle.stream_model.specs.Arrivals.{has_several, several}
+use Rattle.stream_model.proofs.parts.Arrivals.{if_several}
 use Rattle.stream_model.specs.CheckedMeaning.{graph_of, operators_from}
 use Rattle.stream_model.specs.Operators.{Operator, connections}
 use Rattle.stream_model.proofs.CheckedOperators.{operator_from}

@@ -19,7 +19,8 @@ use Rattle.language_model.specs.declared.checked.Policy.{Policy}
 use Rattle.language_model.specs.declared.checked.WindowRule.{WindowRule}
 use Rattle.language_model.specs.declared.outs.Output.{Output}
 use Rattle.language_model.specs.Evaluation.{field_at, tuple_of, world_of}
-use Rattle.language_model.specs.Functions.{calls_of, value}
+use Rattle.language_model.specs.Functions.{value}
+use Rattle.language_model.specs.parts.Functions.{calls_of}
 use Rattle.language_model.specs.Outcomes.{Outcome, Done, Faulted, Stuck, need}
 use Rattle.language_model.proofs.Returning.{Only, only_followed, done_followed}
 use Rattle.stream_model.specs.Stream.{is_tuple}
@@ -27,7 +28,9 @@ use Rattle.spl_value.specs.KeyOrder.{same_key}
 use Rattle.stream_model.specs.Windows.{contents_of, fired_at, flushes_at_markers, partition_key, tuples_with, window_events}
 use Rattle.stream_model.specs.Groups.{groups}
 use Rattle.stream_model.specs.Bodies.{at_tuple, most_turns, on_first}
-use Rattle.stream_model.specs.Aggregates.{aggregate_body, argument, arguments, arguments_of, attributes_from, collected, contents_give, done_or_none, fired_give, first, group_tuple, last, marker_after, marker_passed, slides, tuples_of, values_of}
+use Rattle.stream_model.specs.Aggregates.{aggregate_body, arguments, attributes_from, collected, contents_give, fired_give, last, slides, tuples_of, values_of}
+use Rattle.stream_model.specs.parts.Aggregates.{argument, arguments_of, first, marker_after, marker_passed}
+use Rattle.stream_model.proofs.parts.Aggregates.{done_or_none, group_tuple}
 use Rattle.stream_model.specs.Copies.{aggregate_source, attribute_alone, kept_source, picks}
 use Rattle.stream_model.proofs.Contents.{own_key_law}
 use Rattle.stream_model.proofs.ContentMembers.{AllContents, AllTuples, EntryIs, IsGroup, ItemIs, all_append, all_fired, all_groups, all_weaker}

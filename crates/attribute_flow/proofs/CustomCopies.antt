@@ -20,9 +20,11 @@ use Rattle.language_model.specs.Outcomes.{Outcome, Done, Faulted, Stuck, followe
 use Rattle.language_model.specs.Statements.{State, Bodies, Left, calls_by}
 use Rattle.language_model.proofs.Returning.{Only, only_weaker}
 use Rattle.stream_model.specs.Stream.{Event, is_empty, is_tuple}
-use Rattle.stream_model.specs.Copies.{agreed, custom_source, submits_in, submits_of, tuple_source}
+use Rattle.stream_model.specs.Copies.{agreed, submits_in, submits_of, tuple_source}
+use Rattle.stream_model.specs.parts.Copies.{custom_source}
 use Rattle.stream_model.specs.Bodies.{most_turns}
-use Rattle.stream_model.specs.Customs.{custom_body, handler, left_by, marker_env, state, tuple_env}
+use Rattle.stream_model.specs.Customs.{custom_body, handler, left_by, marker_env, state}
+use Rattle.stream_model.specs.parts.Customs.{tuple_env}
 use Rattle.attribute_flow.proofs.CodeValues.{tuple_value}
 use Rattle.attribute_flow.proofs.KeepingSubmits.{IsKept, LeftBy, body_keeps}
 use Rattle.attribute_flow.proofs.Reacting.{AllMade, Copied, Copies, IsNoTuple}

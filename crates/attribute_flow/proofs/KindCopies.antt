@@ -17,7 +17,8 @@ use Rattle.language_model.specs.declared.checked.Position.{Position}
 use Rattle.language_model.specs.declared.checked.Position.TheVariants as P
 use Rattle.language_model.specs.declared.outs.Output.{Output}
 use Rattle.language_model.specs.Evaluation.{world_of}
-use Rattle.language_model.specs.Functions.{calls_of, value}
+use Rattle.language_model.specs.Functions.{value}
+use Rattle.language_model.specs.parts.Functions.{calls_of}
 use Rattle.language_model.specs.Outcomes.{Outcome, Done, Faulted, Stuck, followed, need}
 use Rattle.language_model.specs.Statements.{level_tuple}
 use Rattle.stream_model.specs.declared.plan.StateKind.TheVariants as K

@@ -1,6 +1,7 @@
 //! The sources of an attribute of the tuples that statements submit.
 ghost use Rattle.std.specs.Prelude.{◌≡◌};
-ghost use Rattle.stream_model.specs.Copies.{custom_source, submits_in, submits_of};
+ghost use Rattle.stream_model.specs.Copies.{submits_in, submits_of};
+ghost use Rattle.stream_model.specs.parts.Copies.{custom_source};
 ghost use Rattle.attribute_flow.specs.steps.Agreements.{agreement, arms_submits, statement_submits};
 
 use crate::agreement::{Agreement, agreed_on, and_then, is_unseen, of_source};

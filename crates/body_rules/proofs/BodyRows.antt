@@ -7,7 +7,8 @@ use Rattle.spl_tree.specs.declared.code.Code.{Code}
 use Rattle.spl_tree.specs.declared.code.Slot.{Slot}
 use Rattle.spl_tree.specs.Trees.{Expr, Stmt}
 use Rattle.language_model.specs.declared.scope.Scope.{Scope}
-use Rattle.language_model.specs.BodyTyping.{Setting, alone, arms_typing, condition_typing, part_stated, row_typing, stated}
+use Rattle.language_model.specs.BodyTyping.{Setting, alone, arms_typing, condition_typing, row_typing}
+use Rattle.language_model.specs.parts.BodyTyping.{part_stated, stated}
 use Rattle.language_model.specs.BodyTypingLaws.{arms_stated, row_stated}
 use Rattle.language_model.specs.Typing.{Found, after}
 use Rattle.language_model.specs.declared.answer.TypeAnswer.{TypeAnswer}

@@ -10,7 +10,9 @@ use Rattle.language_model.specs.declared.scope.Scope.{Scope}
 use Rattle.language_model.specs.declared.scope.Signature.{Signature}
 use Rattle.language_model.specs.declared.scope.Unresolved.{Unresolved}
 use Rattle.language_model.specs.Composites.{as_function, functions}
-use Rattle.language_model.specs.FunctionTyping.{FunctionTypes as Typing, signature, as_signature, as_unresolved, each_typed, function_types, function_typing, unit_scope}
+use Rattle.language_model.specs.FunctionTyping.{FunctionTypes as Typing, signature, function_types, function_typing, unit_scope}
+use Rattle.language_model.specs.parts.FunctionTyping.{as_signature, as_unresolved}
+use Rattle.language_model.proofs.parts.FunctionTyping.{each_typed}
 use Rattle.language_model.specs.TypeNames.{Types, unit_types}
 use Rattle.language_model.specs.Typing.{Found, after}
 use Rattle.language_model.specs.declared.answer.TypeAnswer.{TypeAnswer}

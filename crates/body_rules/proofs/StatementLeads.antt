@@ -5,7 +5,9 @@ use Rattle.spl_tree.specs.declared.body.Statement.{Statement}
 use Rattle.spl_tree.specs.declared.statement.StmtKind.{StmtKind}
 use Rattle.spl_tree.specs.Trees.{Stmt}
 use Rattle.language_model.specs.declared.scope.Scope.{Scope}
-use Rattle.language_model.specs.BodyTyping.{Setting, alone, part_stated, stated, staying, way_out}
+use Rattle.language_model.specs.BodyTyping.{Setting, alone, staying}
+use Rattle.language_model.specs.parts.BodyTyping.{part_stated, stated}
+use Rattle.language_model.proofs.parts.BodyTyping.{way_out}
 use Rattle.language_model.proofs.BodyTypingLaws.{kind_stated}
 use Rattle.language_model.specs.Typing.{Found, after}
 use Rattle.language_model.specs.declared.answer.TypeAnswer.{TypeAnswer}

@@ -10,7 +10,8 @@ use Rattle.spl_tree.specs.declared.shape.Attribute.{Attribute}
 use Rattle.spl_tree.specs.Trees.{Expr, Stmt, TypeExpr}
 use Rattle.language_model.specs.declared.scope.Scope.{Scope}
 use Rattle.language_model.specs.BodyFits.{with_variable}
-use Rattle.language_model.specs.BodyTyping.{Setting, Stated, alone, arms_typing, condition_typing, for_typing, other_typing, over_typing, stated, variable}
+use Rattle.language_model.specs.BodyTyping.{Setting, Stated, alone, arms_typing, condition_typing, variable}
+use Rattle.language_model.specs.parts.BodyTyping.{for_typing, other_typing, over_typing, stated}
 use Rattle.language_model.specs.BodyTypingLaws.{arms_stated, other_stated}
 use Rattle.language_model.specs.TypeNames.{type_meant}
 use Rattle.language_model.specs.Typing.{after}

@@ -11,7 +11,8 @@ use Rattle.spl_tree.specs.declared.expression.Placed.{Placed}
 use Rattle.spl_tree.specs.Trees.{Expr}
 use Rattle.language_model.specs.declared.scope.Port.{Port}
 use Rattle.language_model.specs.declared.scope.Scope.{Scope}
-use Rattle.language_model.specs.BodyTyping.{submit_typing, submitted, submitted_on, submitted_to}
+use Rattle.language_model.specs.BodyTyping.{submit_typing, submitted}
+use Rattle.language_model.proofs.parts.BodyTyping.{submitted_on, submitted_to}
 use Rattle.language_model.specs.Scopes.{At, at_place, first_from}
 use Rattle.language_model.specs.Typing.{Found, unknown}
 use Rattle.language_model.specs.declared.answer.TypeAnswer.{TypeAnswer}

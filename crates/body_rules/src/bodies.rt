@@ -1,6 +1,7 @@
 //! The code of bodies.
 ghost use Rattle.std.specs.Prelude.{◌≡◌, ◌++◌, ◌∷◌, [], OnOk, length};
-ghost use Rattle.language_model.specs.BodyTyping.{alone, arms_typing, body_typing, for_typing, other_typing, part_stated, row_typing, stated};
+ghost use Rattle.language_model.specs.BodyTyping.{alone, arms_typing, body_typing, row_typing};
+ghost use Rattle.language_model.specs.parts.BodyTyping.{for_typing, other_typing, part_stated, stated};
 ghost use Rattle.body_rules.specs.steps.Choices.{block_typing, if_typing, while_typing};
 ghost use Rattle.language_model.specs.BodyTypingLaws.{arms_stated, other_stated, row_stated};
 ghost use Rattle.body_rules.specs.steps.Leads.{Leads, shortened};

@@ -1,7 +1,7 @@
 //! What is looked up by name in the bodies of composites.
 ghost use Rattle.std.specs.Prelude.{◌≡◌, IfOk};
 ghost use Rattle.language_model.specs.Invoking.{input_names, is_among, stream_names};
-ghost use Rattle.language_model.specs.StreamTypes.{output_names};
+ghost use Rattle.language_model.specs.parts.StreamTypes.{output_names};
 ghost use Rattle.program_tables.specs.Names.{HoldsNames};
 ghost use Rattle.body_sites.specs.Names.{type_names_of};
 

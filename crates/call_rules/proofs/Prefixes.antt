@@ -7,7 +7,8 @@ use Rattle.spl_tree.specs.declared.code.UnaryCode.{UnaryCode}
 use Rattle.spl_tree.specs.declared.expression.Placed.{Placed}
 use Rattle.spl_tree.specs.declared.expression.PrefixOperator.{PrefixOperator}
 use Rattle.language_model.specs.declared.scope.CheckRefusal.{CheckRefusal}
-use Rattle.language_model.specs.Typing.{after, mismatch, level_prefix, prefix_typed, prefixes_at, prefixes_typed}
+use Rattle.language_model.specs.Typing.{after, mismatch, level_prefix, prefixes_at, prefixes_typed}
+use Rattle.language_model.proofs.parts.Typing.{prefix_typed}
 
 module _ (operand : ℕ) (t : SplType) where
   outer_stops : (ps : List (Placed PrefixOperator)) (i : ℕ) (r : CheckRefusal) → prefixes_typed (drop i ps) operand t ≡ Err r → prefixes_typed ps operand t ≡ Err r

@@ -1,10 +1,11 @@
 //! What operators are on operands of a type.
 ghost use Rattle.std.specs.Prelude.{◌≡◌, drop, reverse, Ok};
-ghost use Rattle.std.specs.Option.{option_copied};
+ghost use Rattle.std.specs.Option.{option_copied, option_or};
 ghost use Rattle.spl_tree.specs.declared.code.Code.TheVariants as C;
 ghost use Rattle.spl_value.specs.declared.types.SplType.TheViews.{out-SplType};
 ghost use Rattle.language_model.specs.declared.scope.Typed.{Typed};
-ghost use Rattle.language_model.specs.Typing.{Found, integer_operator, order_operator, on_integers, ordering_of, or_else, level_operator, level_prefix, level_in, prefixes_at, prefixes_typed, branch_wanted, typed, after};
+ghost use Rattle.language_model.specs.Typing.{Found, integer_operator, order_operator, level_operator, level_prefix, level_in, prefixes_at, prefixes_typed, typed, after};
+ghost use Rattle.language_model.specs.parts.Typing.{on_integers, ordering_of, branch_wanted};
 ghost use Rattle.language_model.specs.Finds.{Finds, FindsBy};
 ghost use Rattle.call_rules.specs.Operands.{right_for, operation_given, same_given};
 
@@ -55,7 +56,7 @@ fn on_order(operator: BinaryOperator) -> Option<(BinaryCode, SplType)>
 }
 
 fn on_integers(operator: BinaryOperator, kind: IntKind) -> Option<(BinaryCode, SplType)>
-    ensures { result ≡ or_else (on_integers kind (integer_operator operator)) (ordering_of (order_operator operator)) }
+    ensures { result ≡ option_or (on_integers kind (integer_operator operator)) (ordering_of (order_operator operator)) }
 {
     match integer_operator(operator) {
         Some(integer) => Some((BinaryCode::Integers(integer, kind), SplType::Int(kind))),

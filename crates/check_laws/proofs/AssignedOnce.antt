@@ -10,7 +10,9 @@ use Rattle.spl_value.specs.declared.types.SplType.{SplType}
 use Rattle.spl_tree.specs.declared.expression.Field.{Field}
 use Rattle.spl_tree.specs.declared.unit.OutputAssignments.{OutputAssignments}
 use Rattle.spl_tree.specs.Trees.{Expr}
-use Rattle.language_model.specs.OutputTyping.{Assigned, Assigns, Fills, as_attribute, assignment_typing, assignments_typing, bad_output, filled_from, is_assigned, places, rows_typing, wanted_of, with_others}
+use Rattle.language_model.specs.OutputTyping.{Assigned, Assigns, Fills, assignment_typing, assignments_typing, bad_output, filled_from, rows_typing, with_others}
+use Rattle.language_model.proofs.parts.OutputTyping.{as_attribute, is_assigned, wanted_of}
+use Rattle.language_model.specs.parts.OutputTyping.{places}
 use Rattle.language_model.specs.Scopes.{At, attribute_of}
 use Rattle.language_model.proofs.Standing.{Bears, attribute_there}
 use Rattle.language_model.specs.StreamTypes.{Attributes}

@@ -13,7 +13,9 @@ use Rattle.language_model.specs.declared.checked.CheckedClauses.{CheckedClauses}
 use Rattle.language_model.specs.declared.checked.PortTypes.{PortTypes}
 use Rattle.language_model.specs.declared.scope.CheckError.TheVariants as E
 use Rattle.language_model.specs.declared.scope.Port.{Port}
-use Rattle.language_model.specs.Checking.{body_checked, clauses_checked, fit_ports, invocation_checked, operator_checked, operator_scope, operators_checked, outputs_checked, port_types, ports_checked, ports_of, site_of, surroundings}
+use Rattle.language_model.specs.Checking.{clauses_checked, fit_ports, invocation_checked, operator_checked, port_types}
+use Rattle.language_model.proofs.parts.Checking.{body_checked, operator_scope, site_of}
+use Rattle.language_model.specs.parts.Checking.{operators_checked, outputs_checked, ports_checked, ports_of, surroundings}
 use Rattle.language_model.specs.FitLaws.{DollarsFit}
 use Rattle.language_model.specs.FlatLaws.{IsInvoked}
 use Rattle.language_model.specs.FunctionTyping.{unit_scope}

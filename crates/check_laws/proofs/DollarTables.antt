@@ -14,7 +14,9 @@ use Rattle.language_model.specs.declared.scope.Dollar.{Dollar}
 use Rattle.language_model.specs.declared.scope.Typed.{Typed}
 use Rattle.language_model.specs.CodeFits.{CodeFits}
 use Rattle.language_model.specs.FitLaws.{ConstantLaw, DollarsFit, FitLaw, no_names}
-use Rattle.language_model.specs.Parameters.{Tables, constant_scope, constant_typing, default_typing, dollar_tables, expansion_dollars, has_meaning, is_constant, own_from, own_within, parameter_typing, parameters_given, table_at, tables_from, value_typing}
+use Rattle.language_model.specs.Parameters.{Tables, constant_scope, constant_typing, dollar_tables, expansion_dollars, has_meaning, own_from, own_within, parameter_typing, table_at, tables_from}
+use Rattle.language_model.proofs.parts.Parameters.{default_typing, value_typing}
+use Rattle.language_model.specs.parts.Parameters.{is_constant, parameters_given}
 use Rattle.language_model.specs.Scopes.{at_place, first_from}
 use Rattle.language_model.specs.DollarTargets.{arguments_of, composite_of, value_named}
 use Rattle.language_model.specs.TypeNames.{Types, composite_types, type_meant}

@@ -13,7 +13,9 @@ use Rattle.language_model.specs.declared.checked.ParameterValue.{ParameterValue}
 use Rattle.language_model.specs.declared.checked.ParameterValue.TheVariants as V
 use Rattle.language_model.specs.declared.kinds.Role.{Role}
 use Rattle.language_model.specs.declared.kinds.Role.TheVariants as R
-use Rattle.language_model.specs.Checking.{as_file, file_given, if_given, parameters_checked}
+use Rattle.language_model.specs.Checking.{as_file, parameters_checked}
+use Rattle.language_model.specs.parts.Checking.{file_given}
+use Rattle.language_model.proofs.parts.Checking.{if_given}
 use Rattle.language_model.specs.Literals.{file_typing}
 use Rattle.language_model.specs.ParameterTyping.{Site, extra, missing, needed, one_value, parameter_typing, parameters_typing, role_of, single_value, value_given, value_typing}
 use Rattle.language_model.specs.DollarTargets.{only_value, value_named}

@@ -19,7 +19,9 @@ use Rattle.language_model.specs.declared.checked.CheckedClauses.TheVariants as A
 use Rattle.language_model.specs.declared.kinds.Role.TheVariants as R
 use Rattle.language_model.specs.declared.scope.Port.{Port}
 use Rattle.language_model.specs.declared.scope.Scope.{Scope}
-use Rattle.language_model.specs.Checking.{Checks, body_checked, clauses_checked, config_checked, file_given, invocation_checked, is_partitioned, logic_checked, operator_checked, operators_checked, operator_scope, output_rows, parameters_checked, part_of, port_types, ports_checked, ports_of, rows_checked, site_of, strict_given, surroundings, there, windows_checked}
+use Rattle.language_model.specs.Checking.{Checks, clauses_checked, config_checked, invocation_checked, logic_checked, operator_checked, parameters_checked, part_of, port_types, rows_checked, there}
+use Rattle.language_model.proofs.parts.Checking.{body_checked, operator_scope, site_of}
+use Rattle.language_model.specs.parts.Checking.{file_given, is_partitioned, operators_checked, output_rows, ports_checked, ports_of, strict_given, surroundings, windows_checked}
 use Rattle.language_model.specs.Keeping as F
 use Rattle.language_model.specs.Keeping.{PartFits}
 use Rattle.language_model.specs.DollarTargets.{followed, invocation_at, value_named}
@@ -27,7 +29,9 @@ use Rattle.language_model.specs.Literals.{file_typing, number_literal}
 use Rattle.language_model.specs.LogicTyping.{Surroundings}
 use Rattle.language_model.specs.ParameterTyping.{Site, needed, role_of}
 use Rattle.language_model.specs.Parameters.{Tables}
-use Rattle.language_model.specs.SinkFiles.{OpFile, file_of, is_sink, is_source, op_file, text_in}
+use Rattle.language_model.specs.SinkFiles.{OpFile, file_of, is_sink, op_file}
+use Rattle.language_model.proofs.parts.SinkFiles.{is_source}
+use Rattle.language_model.specs.parts.SinkFiles.{text_in}
 use Rattle.language_model.specs.StreamTypes.{Attributes, Body, body_at}
 use Rattle.language_model.specs.Typing.{Found, after, mismatch}
 use Rattle.check_laws.proofs.ExpansionBodies.{IsBodyOf, body_of}

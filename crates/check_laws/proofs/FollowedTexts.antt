@@ -12,9 +12,12 @@ use Rattle.spl_tree.specs.declared.unit.Definition.{Definition}
 use Rattle.spl_tree.specs.Trees.{Expr}
 use Rattle.language_model.specs.declared.scope.Scope.{Scope}
 use Rattle.language_model.specs.Literals as L
-use Rattle.language_model.specs.DollarTargets.{Target, arguments_of, followed, followed_within, heads_of, here_or, level_target, parameter_target, target_in}
-use Rattle.language_model.specs.Literals.{file_or_mismatch, file_typing, is_file_name, level_file, text_at}
-use Rattle.language_model.specs.SinkFiles.{level_text, literal_text, text_in}
+use Rattle.language_model.specs.DollarTargets.{Target, arguments_of, followed, followed_within, heads_of, here_or, level_target, parameter_target}
+use Rattle.language_model.specs.parts.DollarTargets.{target_in}
+use Rattle.language_model.specs.Literals.{file_or_mismatch, file_typing, level_file}
+use Rattle.language_model.specs.parts.Literals.{is_file_name, text_at}
+use Rattle.language_model.specs.SinkFiles.{level_text}
+use Rattle.language_model.specs.parts.SinkFiles.{literal_text, text_in}
 use Rattle.language_model.specs.Typing.{mismatch, typing}
 use Rattle.language_model.proofs.FoundAnswers.{after_gives, same_Ok}
 

@@ -16,8 +16,10 @@ use Rattle.spl_tree.specs.declared.unit.Invocation.{Invocation}
 use Rattle.language_model.specs.declared.expansion.Operation.{Operation}
 use Rattle.language_model.specs.declared.expansion.Source.{Source}
 use Rattle.language_model.specs.Composites.{composites}
-use Rattle.language_model.specs.Expansion.{Inlined, Made, connections_of, is_within}
-use Rattle.language_model.specs.Numbering.{expansion_of, expansions_from, op_of, ops_from, streams_of}
+use Rattle.language_model.specs.Expansion.{Inlined, Made}
+use Rattle.language_model.specs.parts.Expansion.{connections_of, is_within}
+use Rattle.language_model.specs.Numbering.{expansions_from, ops_from, streams_of}
+use Rattle.language_model.proofs.parts.Numbering.{expansion_of, op_of}
 use Rattle.language_model.specs.Scopes.{At}
 use Rattle.language_model.specs.DollarTargets.{composite_of}
 use Rattle.language_model.specs.StreamTypes.{Body, body_at, name_places}

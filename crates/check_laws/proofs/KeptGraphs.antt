@@ -7,7 +7,7 @@ use Rattle.spl_tree.specs.declared.unit.Definition.{Definition}
 use Rattle.language_model.specs.declared.checked.CheckedClauses.{CheckedClauses}
 use Rattle.language_model.specs.BodyLaws.{BodyFitLaw, BodyReturnsLaw}
 use Rattle.language_model.specs.CheckedGraph.{CheckedGraph}
-use Rattle.language_model.specs.Checking.{each_stream, operators_checked}
+use Rattle.language_model.specs.parts.Checking.{each_stream, operators_checked}
 use Rattle.language_model.specs.FitLaws.{ConstantLaw, DollarsFit, FitLaw}
 use Rattle.language_model.specs.FlatLaws.{ConnectedLaw, MakerLaw, OperatorLaw, TopoLaw}
 use Rattle.language_model.specs.FunctionTyping.{functions_typing, unit_scope}

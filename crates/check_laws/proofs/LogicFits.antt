@@ -29,7 +29,9 @@ use Rattle.language_model.specs.CodeFits as G
 use Rattle.language_model.specs.CodeFits.{CodeFits}
 use Rattle.language_model.specs.FitLaws.{DollarsFit, no_names}
 use Rattle.language_model.specs.Keeping.{HandlersFit, tuple_scope}
-use Rattle.language_model.specs.LogicTyping.{Surroundings, event_word, handler_of, handler_scope, handler_setting, handler_typing, handlers_made, handlers_on, handlers_typing, is_event, is_plain, is_state_value, logic_typing, state_typing, state_value, state_variable}
+use Rattle.language_model.specs.LogicTyping.{Surroundings, event_word, handler_of, handler_scope, handler_typing, handlers_made, handlers_on, handlers_typing, is_event, logic_typing, state_value, state_variable}
+use Rattle.language_model.proofs.parts.LogicTyping.{handler_setting}
+use Rattle.language_model.specs.parts.LogicTyping.{is_plain, is_state_value, state_typing}
 use Rattle.language_model.specs.Parameters.{constant_scope}
 use Rattle.language_model.specs.Scopes.{At, first_from}
 use Rattle.language_model.proofs.Standing.{Stands, first_stands}

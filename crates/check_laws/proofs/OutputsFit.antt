@@ -33,8 +33,11 @@ use Rattle.language_model.specs.CodeFits.{CodeFits, FieldsFit, OneEach}
 use Rattle.language_model.specs.FitLaws.{DollarsFit}
 use Rattle.language_model.specs.Keeping as F
 use Rattle.language_model.specs.Keeping.{CollectorFits, GroupsFit, PlacesFit}
-use Rattle.language_model.specs.OutputTyping.{Assigned, Collecting, Summing, Extreme, Choosing, Counting, assigned_code, assigned_group, bad_output, called_typing, collected, collecting_of, gathered_by, gathers, groups_typing, inputs_typing, last_of, level_gathered, level_gathers, of_wanted, one_attribute, place_in, places_typing, rows_typing, taken_over, tuple_typing, with_others}
-use Rattle.language_model.specs.Scopes.{At, OfAttribute, PortAttribute, attribute_of, attributes_of, last_from, meant, port_of, variable_meant, variable_of}
+use Rattle.language_model.specs.OutputTyping.{Assigned, Collecting, Summing, Extreme, Choosing, Counting, assigned_group, bad_output, called_typing, collecting_of, gathers, groups_typing, inputs_typing, level_gathered, level_gathers, one_attribute, places_typing, rows_typing, taken_over, tuple_typing, with_others}
+use Rattle.language_model.specs.parts.OutputTyping.{assigned_code, collected, last_of, of_wanted}
+use Rattle.language_model.proofs.parts.OutputTyping.{gathered_by, place_in}
+use Rattle.language_model.specs.Scopes.{At, OfAttribute, PortAttribute, attribute_of, attributes_of, last_from, meant, variable_of}
+use Rattle.language_model.proofs.parts.Scopes.{port_of, variable_meant}
 use Rattle.language_model.proofs.Standing.{Bears, attribute_there}
 use Rattle.language_model.specs.StreamTypes.{Attributes}
 use Rattle.language_model.specs.Typing.{after, as_wanted, meant_typed, mismatch, same_types, typed, typing}

@@ -13,10 +13,12 @@ use Rattle.spl_tree.specs.Trees.{placed}
 use Rattle.language_model.specs.declared.checked.CheckedClauses.{CheckedClauses}
 use Rattle.language_model.specs.declared.checked.CheckedClauses.TheVariants as A
 use Rattle.language_model.specs.CheckedGraph.{CheckedGraph}
-use Rattle.language_model.specs.Checking.{checked, each_stream, operators_checked}
+use Rattle.language_model.specs.Checking.{checked}
+use Rattle.language_model.specs.parts.Checking.{each_stream, operators_checked}
 use Rattle.language_model.specs.Declarations.{first_of}
 use Rattle.language_model.specs.Expansion.{Expanded, expanded_main}
-use Rattle.language_model.specs.Flat.{IsFlat, expands, files_had, flat_from, if_none_had, no_main, ordered, recursive, twice, with_own_files}
+use Rattle.language_model.specs.Flat.{IsFlat, expands, flat_from, no_main, ordered, recursive, twice, with_own_files}
+use Rattle.language_model.proofs.parts.Flat.{files_had, if_none_had}
 use Rattle.language_model.specs.FunctionTyping.{functions_typing}
 use Rattle.language_model.specs.Keeping.{Keeps}
 use Rattle.language_model.specs.Numbering.{numbers_from}

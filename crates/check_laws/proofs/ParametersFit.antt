@@ -27,12 +27,16 @@ use Rattle.language_model.specs.declared.checked.Position.TheVariants as P
 use Rattle.language_model.specs.declared.kinds.Role.{Role}
 use Rattle.language_model.specs.declared.kinds.Role.TheVariants as R
 use Rattle.language_model.specs.declared.scope.Scope.{Scope}
-use Rattle.language_model.specs.Checking.{as_code, as_file, as_places, there, if_given, parameters_checked}
+use Rattle.language_model.specs.Checking.{as_code, as_file, as_places, there, parameters_checked}
+use Rattle.language_model.proofs.parts.Checking.{if_given}
 use Rattle.language_model.specs.CodeFits.{CodeFits}
 use Rattle.language_model.specs.FitLaws.{DollarsFit}
 use Rattle.language_model.specs.Keeping.{ConditionFits, KeysFit, Once}
-use Rattle.language_model.specs.Literals.{file_or_mismatch, file_typing, is_file_name, level_file, level_text, text_at}
-use Rattle.language_model.specs.ParameterTyping.{Site, extra, first_schema, format_of, key_at, key_of, keys_typing, level_index, level_key, missing, needed, one_value, parameter_typing, parameters_typing, parsing_of, position_of, role_of, single_value, some_keys, value_given, value_typing, word_of}
+use Rattle.language_model.specs.Literals.{file_or_mismatch, file_typing, level_file, level_text}
+use Rattle.language_model.specs.parts.Literals.{is_file_name, text_at}
+use Rattle.language_model.specs.ParameterTyping.{Site, extra, key_of, keys_typing, level_index, missing, needed, one_value, parameter_typing, parameters_typing, role_of, single_value, value_given, value_typing}
+use Rattle.language_model.specs.parts.ParameterTyping.{first_schema, format_of, level_key, parsing_of, position_of, some_keys, word_of}
+use Rattle.language_model.proofs.parts.ParameterTyping.{key_at}
 use Rattle.language_model.specs.Scopes.{At, attribute_of}
 use Rattle.language_model.proofs.Standing.{Bears, attribute_there}
 use Rattle.language_model.specs.Typing.{after, mismatch, typing}

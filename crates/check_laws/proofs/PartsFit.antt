@@ -26,7 +26,8 @@ use Rattle.language_model.specs.declared.kinds.WindowForm.TheVariants as W
 use Rattle.language_model.specs.declared.scope.CheckError.TheVariants as E
 use Rattle.language_model.specs.declared.scope.Port.{Port}
 use Rattle.language_model.specs.declared.scope.Scope.{Scope}
-use Rattle.language_model.specs.Checking.{Checks, aggregated, are_passed, as_places, clauses_checked, code_given, config_checked, file_given, first_of, file_sink, file_source, fit_ports, functor, has_text_form, is_partitioned, joined, logic_checked, output_rows, outputs_checked, parameters_checked, part_of, places_given, plain, position_given, punctor, rows_checked, split, strict_given, there, tuple_of, union, windows_checked}
+use Rattle.language_model.specs.Checking.{Checks, are_passed, as_places, clauses_checked, config_checked, first_of, fit_ports, has_text_form, logic_checked, parameters_checked, part_of, plain, rows_checked, there, tuple_of}
+use Rattle.language_model.specs.parts.Checking.{aggregated, code_given, file_given, file_sink, file_source, functor, is_partitioned, joined, output_rows, outputs_checked, places_given, position_given, punctor, split, strict_given, union, windows_checked}
 use Rattle.language_model.specs.CodeFits.{CodeFits}
 use Rattle.language_model.specs.FitLaws.{DollarsFit}
 use Rattle.language_model.specs.Keeping as F
@@ -35,7 +36,8 @@ use Rattle.language_model.specs.Kinds.{exactly, is_within, rules_of}
 use Rattle.language_model.specs.Literals.{number_literal}
 use Rattle.language_model.specs.LogicTyping.{Surroundings, logic_typing}
 use Rattle.language_model.specs.OutputTyping.{groups_typing, inputs_typing}
-use Rattle.language_model.specs.ParameterTyping.{Site, first_schema, role_of, value_given}
+use Rattle.language_model.specs.ParameterTyping.{Site, role_of, value_given}
+use Rattle.language_model.specs.parts.ParameterTyping.{first_schema}
 use Rattle.language_model.specs.StreamTypes.{Attributes, passed, same_attributes}
 use Rattle.language_model.specs.Typing.{after, mismatch, refused}
 use Rattle.check_laws.specs.PartsLaw.{PartsLaw}

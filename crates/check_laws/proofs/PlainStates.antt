@@ -39,11 +39,14 @@ use Rattle.language_model.specs.declared.scope.Dollar.{Dollar}
 use Rattle.language_model.specs.declared.scope.Scope.{Scope}
 use Rattle.language_model.specs.declared.scope.Typed.{Typed}
 use Rattle.language_model.specs.BodyTyping.{first_value}
-use Rattle.language_model.specs.LogicTyping.{is_minus, is_minus_prefix, is_negation, is_plain, is_state_value, level_plain, level_state, plain_parameter, state_typing, state_value, state_variable}
+use Rattle.language_model.specs.LogicTyping.{is_minus, is_negation, level_plain, level_state, plain_parameter, state_value, state_variable}
+use Rattle.language_model.specs.parts.LogicTyping.{is_minus_prefix, is_plain, is_state_value, state_typing}
 use Rattle.language_model.specs.Parameters.{constant_scope}
 use Rattle.language_model.specs.Scopes.{At, attribute_of, dollar_of}
 use Rattle.language_model.specs.TypeNames.{Types, type_meant}
-use Rattle.language_model.specs.Typing.{Wanted, Found, Part, Wants, Anything, This, Another, after, are_distinct, as_wanted, dollar_typed, elements_typed, entries_typed, field_typed, fields_typed, gives_each, level_prefix, list_typed, map_typed, mismatch, number_typed, own_fields, part_typed, prefix_typed, prefixes_at, prefixes_typed, refused, same_types, tuple_typed, typed, typing, unary_typed, wants_list, wants_map, wants_tuple}
+use Rattle.language_model.specs.Typing.{Wanted, Found, Part, Wants, Anything, This, Another, after, are_distinct, as_wanted, elements_typed, entries_typed, fields_typed, gives_each, level_prefix, list_typed, map_typed, mismatch, number_typed, own_fields, part_typed, prefixes_at, prefixes_typed, refused, same_types, tuple_typed, typed, typing}
+use Rattle.language_model.specs.parts.Typing.{dollar_typed, wants_list, wants_map, wants_tuple}
+use Rattle.language_model.proofs.parts.Typing.{field_typed, prefix_typed, unary_typed}
 use Rattle.language_model.proofs.TypingLaws as Y
 use Rattle.language_model.specs.TypingLaws.{parted, parts, entry_parts, field_parts, part}
 use Rattle.check_laws.proofs.Accepting.{gives_if, none_at}

@@ -17,7 +17,9 @@ use Rattle.language_model.specs.BodyLaws.{BodyFitLaw, BodyReturnsLaw}
 use Rattle.language_model.specs.BodyTyping.{body_typing, returns, variable}
 use Rattle.language_model.specs.Composites.{functions}
 use Rattle.language_model.specs.FitLaws.{DollarsFit}
-use Rattle.language_model.specs.FunctionTyping.{FunctionTypes, as_signature, as_unresolved, each_typed, function_scope, function_setting, function_types, function_typing, functions_typing, if_returning, kinds, signature, unit_scope}
+use Rattle.language_model.specs.FunctionTyping.{FunctionTypes, function_types, function_typing, functions_typing, if_returning, signature, unit_scope}
+use Rattle.language_model.specs.parts.FunctionTyping.{as_signature, as_unresolved, kinds}
+use Rattle.language_model.proofs.parts.FunctionTyping.{each_typed, function_scope, function_setting}
 use Rattle.language_model.specs.TypeNames.{unit_types}
 use Rattle.language_model.specs.Typing.{after, refused}
 use Rattle.language_model.specs.WorldFits.{FunctionFits, FunctionsFit, body_scope}

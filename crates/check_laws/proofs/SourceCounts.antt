@@ -12,10 +12,14 @@ use Rattle.spl_tree.specs.declared.unit.InputPort.{InputPort}
 use Rattle.spl_tree.specs.declared.unit.Invocation.{Invocation}
 use Rattle.language_model.specs.declared.expansion.Operation.{Operation}
 use Rattle.language_model.specs.declared.expansion.Source.{Source}
-use Rattle.language_model.specs.Expansion.{Inlined, Made, connections_of, input_sources, names_of_port, own_or_input, place_of, port_names, ports_of, sources_of, taken_in}
+use Rattle.language_model.specs.Expansion.{Inlined, Made, input_sources, names_of_port, place_of, port_names, sources_of, taken_in}
+use Rattle.language_model.specs.parts.Expansion.{connections_of, ports_of}
+use Rattle.language_model.proofs.parts.Expansion.{own_or_input}
 use Rattle.language_model.specs.Invoking.{input_names, stream_names}
-use Rattle.language_model.specs.Numbering.{expansion_of, input_streams, numbers_from, stream_of, streams_of}
-use Rattle.language_model.specs.StreamTypes.{Body, name_places, so_often, taken_by}
+use Rattle.language_model.specs.Numbering.{input_streams, numbers_from, stream_of, streams_of}
+use Rattle.language_model.proofs.parts.Numbering.{expansion_of}
+use Rattle.language_model.specs.StreamTypes.{Body, name_places, taken_by}
+use Rattle.language_model.specs.parts.StreamTypes.{so_often}
 use Rattle.spl_value.proofs.Lists.{at_most_sum}
 use Rattle.graph_laws.proofs.Flattening.{numbers_within, place_within}
 

@@ -11,10 +11,11 @@ use Rattle.spl_tree.specs.declared.graph.Stream.{Stream}
 use Rattle.spl_tree.specs.declared.unit.Definition.{Definition}
 use Rattle.spl_tree.specs.declared.unit.InputPort.{InputPort}
 use Rattle.spl_tree.specs.declared.unit.OutputStream.{OutputStream}
-use Rattle.language_model.specs.Checking.{each_stream}
+use Rattle.language_model.specs.parts.Checking.{each_stream}
 use Rattle.language_model.specs.Keeping.{PortHas, PortsHave, StreamsHave, no_ports, no_streams, one_port, stream}
 use Rattle.language_model.specs.Numbering.{numbers_from}
-use Rattle.language_model.specs.StreamTypes.{Attributes, Body, Origin, are_alike, attributes_within, tail, each_name, input_heads, name_places, origin_attributes, output_heads, output_of_op, outputs_attributes, port_attributes, ports_attributes, same_attributes, stream_attributes}
+use Rattle.language_model.specs.StreamTypes.{Attributes, Body, Origin, are_alike, attributes_within, each_name, input_heads, name_places, output_heads, output_of_op, outputs_attributes, port_attributes, ports_attributes, same_attributes, stream_attributes}
+use Rattle.language_model.proofs.parts.StreamTypes.{tail, origin_attributes}
 use Rattle.language_model.specs.Typing.{Found, after, mismatch}
 use Rattle.language_model.proofs.TypingLaws.{same_types_law}
 use Rattle.language_model.proofs.FoundAnswers.{after_gives, same_Ok}

@@ -7,7 +7,8 @@ use Rattle.spl_tree.specs.declared.unit.Definition.{Definition}
 use Rattle.language_model.specs.Composites.{composites}
 use Rattle.language_model.specs.Declarations.{first_of}
 use Rattle.language_model.specs.Expansion.{Expanded, Made, after, expanded_main}
-use Rattle.language_model.specs.Flat.{IsFlat, expands, files_had, flat_from, graph_of, if_all_taken, no_main, ordered, recursive, twice, with_own_files}
+use Rattle.language_model.specs.Flat.{IsFlat, expands, flat_from, no_main, ordered, recursive, twice, with_own_files}
+use Rattle.language_model.proofs.parts.Flat.{files_had, graph_of, if_all_taken}
 use Rattle.language_model.specs.Numbering.{expansions_from, ops_from, streams_from}
 use Rattle.language_model.specs.Scopes.{At}
 use Rattle.language_model.specs.Taking.{first_untaken, taken}

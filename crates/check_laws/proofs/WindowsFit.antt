@@ -33,7 +33,9 @@ use Rattle.language_model.specs.declared.scope.Port.{Port}
 use Rattle.language_model.specs.Checking.{each_window, policy_of, windows_of_form}
 use Rattle.language_model.specs.Keeping as F
 use Rattle.language_model.specs.Keeping.{AggregateWindow, DeltaFits, IsCount, JoinWindow}
-use Rattle.language_model.specs.Policies.{Delta, IntegerAttribute, Numbers, Sliding, aggregate_policy, aggregate_rule, are_no_arguments, as_count, as_integer, as_limit, bad_window, count_of, delta_of, has_name, is_word, join_rule, level_attribute, level_integer, limited, measured, most_tuples, nothing_behind, only_count, partitioned_or_not, punctuated, sliding_alone, sliding_rule, sliding_with_trigger, trigger, tumbling, window_at, window_of, windows_typing}
+use Rattle.language_model.specs.Policies.{Delta, IntegerAttribute, Numbers, aggregate_rule, are_no_arguments, bad_window, delta_of, has_name, is_word, join_rule, level_attribute, level_integer, measured, most_tuples, nothing_follows, only_count, partitioned_or_not, punctuated, sliding_rule, sliding_with_trigger, tumbling, window_at, window_of, windows_typing}
+use Rattle.language_model.proofs.parts.Policies.{Sliding, limited}
+use Rattle.language_model.specs.parts.Policies.{aggregate_policy, as_count, as_integer, as_limit, count_of, sliding_alone, trigger}
 use Rattle.language_model.specs.Scopes.{At, attribute_of, first_from}
 use Rattle.language_model.proofs.Standing.{Bears, attribute_there, Stands, first_stands}
 use Rattle.language_model.specs.StreamTypes.{Attributes}
@@ -118,7 +120,7 @@ measured_fits Q numbers least schema by_count by_delta other p counts deltas h =
     (λ is. gives_after (DeltaIn schema) Q (delta_of numbers schema p p.arguments) _ (delta_fits numbers schema p p.arguments) (λ d delta. deltas d delta))
     (λ no_delta. h))
 
-alone_fits : {A : Type 0} (Q : A → Type 0) (x : A) (ps : List WindowPart) → Q x → Gives Q (nothing_behind x ps)
+alone_fits : {A : Type 0} (Q : A → Type 0) (x : A) (ps : List WindowPart) → Q x → Gives Q (nothing_follows x ps)
 alone_fits Q x [] h = h
 alone_fits Q x (p ∷ ps) h = tt
 

@@ -4,7 +4,8 @@ use Rattle.spl_tree.specs.declared.graph.Op.{Op}
 use Rattle.spl_tree.specs.declared.unit.Clauses.{Clauses}
 use Rattle.spl_tree.specs.declared.unit.OutputStream.{OutputStream}
 use Rattle.language_model.specs.declared.checked.CheckedClauses.{CheckedClauses}
-use Rattle.language_model.specs.Checking.{clauses_checked, fit_ports, outputs_checked}
+use Rattle.language_model.specs.Checking.{clauses_checked, fit_ports}
+use Rattle.language_model.specs.parts.Checking.{outputs_checked}
 use Rattle.language_model.specs.FitLaws.{DollarsFit}
 use Rattle.language_model.specs.Keeping.{PartFits}
 use Rattle.language_model.specs.LogicTyping.{Surroundings}

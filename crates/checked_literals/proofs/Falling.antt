@@ -7,7 +7,8 @@ use Rattle.std.proofs.lemmas.Bool.{ltb-true}
 use Rattle.std.proofs.lemmas.Option.{same_Some}
 use Rattle.spl_tree.specs.declared.expression.Placed.{Placed}
 use Rattle.spl_tree.specs.declared.unit.Definition.{Definition}
-use Rattle.language_model.specs.Recursion.{Calls, IsCall, Leads, directly, through, IsAcyclic, IsNotRecursive, calls_among, composite_callers, function_callers}
+use Rattle.language_model.specs.Recursion.{Calls, IsCall, Leads, directly, through, IsNotRecursive, calls_among, composite_callers, function_callers}
+use Rattle.language_model.specs.parts.Recursion.{IsAcyclic}
 
 abbrev is_below : ℕ → List (Placed ℕ) → Bool
 is_below n list = list_all (λ c. nat_lt c.what n) list

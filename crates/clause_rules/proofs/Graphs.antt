@@ -6,7 +6,8 @@ use Rattle.spl_tree.specs.declared.graph.Graph.{Graph}
 use Rattle.spl_tree.specs.declared.unit.Composite.{Composite}
 use Rattle.spl_tree.specs.declared.unit.Definition.{Definition}
 use Rattle.language_model.specs.CheckedGraph.{CheckedGraph}
-use Rattle.language_model.specs.Checking.{checked, each_stream, operators_checked}
+use Rattle.language_model.specs.Checking.{checked}
+use Rattle.language_model.specs.parts.Checking.{each_stream, operators_checked}
 use Rattle.language_model.specs.Expansion as expansion
 use Rattle.language_model.specs.Flat.{IsFlat, IsMain, flat_from, twice, no_main, recursive, expands}
 use Rattle.language_model.specs.FlatLaws.{OperatorLaw}

@@ -16,7 +16,9 @@ use Rattle.language_model.specs.declared.checked.CheckedClauses.{CheckedClauses}
 use Rattle.language_model.specs.declared.checked.PortTypes.{PortTypes}
 use Rattle.language_model.specs.declared.scope.Port.{Port}
 use Rattle.language_model.specs.declared.scope.Scope.{Scope}
-use Rattle.language_model.specs.Checking.{body_checked, clauses_checked, invocation_checked, operator_checked, port_name, port_types, outputs_checked, ports_checked, ports_of, surroundings}
+use Rattle.language_model.specs.Checking.{clauses_checked, invocation_checked, operator_checked, port_name, port_types}
+use Rattle.language_model.proofs.parts.Checking.{body_checked}
+use Rattle.language_model.specs.parts.Checking.{outputs_checked, ports_checked, ports_of, surroundings}
 use Rattle.language_model.specs.FunctionTyping.{unit_scope}
 use Rattle.language_model.specs.DollarTargets.{composite_of, followed}
 use Rattle.language_model.specs.Parameters.{Tables, table_at}

@@ -15,7 +15,9 @@ use Rattle.language_model.specs.declared.scope.Port.{Port}
 use Rattle.language_model.specs.declared.scope.Scope.{Scope}
 use Rattle.language_model.specs.declared.scope.Variable.{Variable}
 use Rattle.language_model.specs.BodyTyping.{body_typing}
-use Rattle.language_model.specs.LogicTyping.{Surroundings, event_word, handler_of, handler_scope, handler_setting, handler_typing, handlers_typing, logic_typing, state_typing}
+use Rattle.language_model.specs.LogicTyping.{Surroundings, event_word, handler_of, handler_scope, handler_typing, handlers_typing, logic_typing}
+use Rattle.language_model.proofs.parts.LogicTyping.{handler_setting}
+use Rattle.language_model.specs.parts.LogicTyping.{state_typing}
 use Rattle.language_model.specs.Scopes.{At, first_from}
 use Rattle.language_model.specs.Typing.{Found, after, refused}
 use Rattle.language_model.specs.declared.answer.TypeAnswer.{TypeAnswer}

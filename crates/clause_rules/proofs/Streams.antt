@@ -3,7 +3,7 @@ use Rattle.std.specs.Prelude.{◌≡◌, ◌+◌, ◌-◌, ◌<◌, ℕ, suc, Li
 use Rattle.std.proofs.Common.{refl, sym, ap, ◌∙◌, append_assoc, arith}
 use Rattle.spl_tree.specs.declared.graph.Graph.{Graph}
 use Rattle.spl_tree.specs.declared.unit.Definition.{Definition}
-use Rattle.language_model.specs.Checking.{each_stream}
+use Rattle.language_model.specs.parts.Checking.{each_stream}
 use Rattle.language_model.specs.Numbering.{numbers_from}
 use Rattle.language_model.specs.StreamTypes.{Attributes, stream_attributes}
 use Rattle.language_model.specs.Typing.{Found, after}

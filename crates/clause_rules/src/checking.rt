@@ -1,6 +1,7 @@
 //! From the graph of a program to a checked one.
 ghost use Rattle.std.specs.Prelude.{◌≡◌, ℕ, List, Ok, length};
-ghost use Rattle.language_model.specs.Checking.{checked, each_stream, operators_checked};
+ghost use Rattle.language_model.specs.Checking.{checked};
+ghost use Rattle.language_model.specs.parts.Checking.{each_stream, operators_checked};
 ghost use Rattle.language_model.specs.Flat.{IsFlat};
 ghost use Rattle.language_model.specs.Numbering.{numbers_from};
 ghost use Rattle.language_model.specs.Parameters.{dollar_tables};

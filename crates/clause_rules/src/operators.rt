@@ -1,6 +1,7 @@
 //! The operators of a graph, in the order of their declaration.
 ghost use Rattle.std.specs.Prelude.{◌≡◌, [], false, length, slice_set, IfOk};
-ghost use Rattle.language_model.specs.Checking.{clauses_checked, is_partitioned, operator_checked, operators_checked, parameters_checked};
+ghost use Rattle.language_model.specs.Checking.{clauses_checked, operator_checked, parameters_checked};
+ghost use Rattle.language_model.specs.parts.Checking.{is_partitioned, operators_checked};
 ghost use Rattle.language_model.specs.FlatLaws.{IsInvoked};
 ghost use Rattle.language_model.specs.FunctionTyping.{unit_scope};
 ghost use Rattle.language_model.specs.Parameters.{table_at};

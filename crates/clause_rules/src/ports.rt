@@ -1,6 +1,7 @@
 //! How many ports an operator has, and what they are called.
 ghost use Rattle.std.specs.Prelude.{◌≡◌, IfOk};
-ghost use Rattle.language_model.specs.Checking.{config_checked, fit_ports, port_name, ports_checked};
+ghost use Rattle.language_model.specs.Checking.{config_checked, fit_ports, port_name};
+ghost use Rattle.language_model.specs.parts.Checking.{ports_checked};
 ghost use Rattle.language_model.specs.Finds.{Finds};
 ghost use Rattle.language_model.specs.Kinds.{is_within};
 ghost use Rattle.clause_rules.specs.steps.Operators.{named};

@@ -9,10 +9,13 @@ use Rattle.spl_tree.specs.declared.unit.Definition.{Definition}
 use Rattle.spl_tree.specs.Trees.{placed}
 use Rattle.language_model.specs.declared.expansion.ExpansionRefusal.TheVariants as R
 use Rattle.language_model.specs.declared.expansion.Operation.{Operation}
-use Rattle.language_model.specs.Composites.{composites, composite_named, main_of, named_or_only, only_one, if_main, may_be_main, has_no_ports, is_empty, portless, behind_first}
+use Rattle.language_model.specs.Composites.{composites, composite_named, main_of, if_main, has_no_ports, is_empty}
+use Rattle.language_model.proofs.parts.Composites.{named_or_only, only_one, portless, behind_first}
+use Rattle.language_model.specs.parts.Composites.{may_be_main}
 use Rattle.language_model.specs.Declarations.{declared_twice, first_of}
 use Rattle.language_model.specs.Expansion.{Made, Expanded, after}
-use Rattle.language_model.specs.Flat.{IsFlat, flat_from, ordered, if_all_taken, graph_of, label_at, files_had, if_none_had, with_own_files}
+use Rattle.language_model.specs.Flat.{IsFlat, flat_from, ordered, with_own_files}
+use Rattle.language_model.proofs.parts.Flat.{if_all_taken, graph_of, label_at, files_had, if_none_had}
 use Rattle.language_model.specs.Numbering.{ops_from, streams_from, expansions_from}
 use Rattle.language_model.specs.Recursion.{HasNoRecursion, IsRecursive, IsNotRecursive, composite_callers}
 use Rattle.language_model.specs.Scopes.{At, first_from}

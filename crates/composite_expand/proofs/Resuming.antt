@@ -8,7 +8,9 @@ use Rattle.spl_tree.specs.declared.unit.Invocation.{Invocation}
 use Rattle.spl_tree.specs.Trees.{placed}
 use Rattle.language_model.specs.declared.expansion.ExpansionRefusal.{ExpansionRefusal}
 use Rattle.language_model.specs.declared.expansion.ExpansionRefusal.TheVariants as R
-use Rattle.language_model.specs.Expansion.{Made, Expanded, Inlined, Opened, Expands, after, expanded, expanded_graph, expanded_invocation, expanded_target, if_grown, if_declared, with_expansion, opened_in, inlined}
+use Rattle.language_model.specs.Expansion.{Made, Expanded, Inlined, Opened, Expands, after, expanded, expanded_graph, expanded_invocation, expanded_target, opened_in, inlined}
+use Rattle.language_model.specs.parts.Expansion.{if_grown, with_expansion}
+use Rattle.language_model.proofs.parts.Expansion.{if_declared}
 use Rattle.language_model.specs.Invoking.{Body, target_of, undeclared, fits_head}
 use Rattle.language_model.specs.Declarations.{first_of}
 use Rattle.language_model.specs.Scopes.{At}

@@ -14,7 +14,9 @@ use Rattle.language_model.specs.declared.expansion.ExpansionRefusal.TheVariants 
 use Rattle.language_model.specs.declared.expansion.Operation.{Operation}
 use Rattle.language_model.specs.Composites.{composites}
 use Rattle.language_model.specs.Declarations.{first_of}
-use Rattle.language_model.specs.Expansion.{Inlined, if_declared, expanded, expanded_target, expanded_invocation, expanded_main, connections_of, is_within, invocation_name, inlined, opened_in, operation, ports_of, if_grown, after, with_expansion, with_operation}
+use Rattle.language_model.specs.Expansion.{Inlined, expanded, expanded_target, expanded_invocation, expanded_main, invocation_name, inlined, opened_in, operation, after}
+use Rattle.language_model.proofs.parts.Expansion.{if_declared, with_operation}
+use Rattle.language_model.specs.parts.Expansion.{connections_of, is_within, ports_of, if_grown, with_expansion}
 use Rattle.language_model.specs.Invoking.{Target, Operator, Body, Nothing, target_of, undeclared, fits_head}
 use Rattle.language_model.specs.Recursion.{HasNoRecursion, composite_callers}
 use Rattle.language_model.specs.Scopes.{At}

@@ -13,7 +13,9 @@ use Rattle.spl_tree.specs.declared.unit.Definition.{Definition}
 use Rattle.spl_tree.specs.declared.unit.Invocation.{Invocation}
 use Rattle.language_model.specs.Composites.{composites}
 use Rattle.language_model.specs.declared.expansion.ExpansionRefusal.{ExpansionRefusal}
-use Rattle.language_model.specs.Expansion.{Made, Inlined, if_grown, with_expansion, with_operation, inlined, opened_in, invocation_name, expanded, expanded_invocation, expanded_main, connections_of, is_within}
+use Rattle.language_model.specs.Expansion.{Made, Inlined, inlined, opened_in, invocation_name, expanded, expanded_invocation, expanded_main}
+use Rattle.language_model.specs.parts.Expansion.{if_grown, with_expansion, connections_of, is_within}
+use Rattle.language_model.proofs.parts.Expansion.{with_operation}
 use Rattle.language_model.specs.declared.expansion.Operation.{Operation}
 use Rattle.language_model.specs.Declarations.{first_of}
 use Rattle.language_model.specs.Invoking.{Body, target_of, undeclared, fits_head}

@@ -8,7 +8,8 @@ ghost use Rattle.language_model.specs.declared.expansion.ExpansionRefusal.TheVar
 ghost use Rattle.composite_expand.specs.declared.answer.ExpandAnswer.TheVariants as X;
 ghost use Rattle.language_model.specs.Composites.{composites as composites_of};
 ghost use Rattle.language_model.specs.Declarations.{first_of};
-ghost use Rattle.language_model.specs.Expansion.{invocation_name, label_of as label_in, operation as operation_at, ports_of as ports_in};
+ghost use Rattle.language_model.specs.Expansion.{invocation_name, operation as operation_at};
+ghost use Rattle.language_model.specs.parts.Expansion.{label_of as label_in, ports_of as ports_in};
 ghost use Rattle.language_model.specs.Invoking.{Operator, Body as BodyOf, target_of, undeclared, fits_head as fits};
 ghost use Rattle.language_model.specs.Recursion.{HasNoRecursion, composite_callers};
 ghost use Rattle.language_model.specs.Scopes.{At, at_place};

@@ -6,7 +6,8 @@ use Rattle.std.proofs.lemmas.Option.{slice_get_within}
 use Rattle.spl_tree.specs.declared.graph.Site.{Site}
 use Rattle.spl_tree.specs.declared.unit.Definition.{Definition}
 use Rattle.language_model.specs.declared.expansion.Source.{Source}
-use Rattle.language_model.specs.Expansion.{Inlined, own_or_input, input_sources, names_of_port, place_of, port_names, sources_of, taken_in}
+use Rattle.language_model.specs.Expansion.{Inlined, input_sources, names_of_port, place_of, port_names, sources_of, taken_in}
+use Rattle.language_model.proofs.parts.Expansion.{own_or_input}
 use Rattle.language_model.specs.Invoking.{input_names, stream_names}
 use Rattle.composite_tables.specs.declared.made.Body.{Body}
 use Rattle.composite_tables.specs.declared.made.Input.{Input}

@@ -9,7 +9,9 @@ use Rattle.spl_tree.specs.declared.unit.Composite.{Composite}
 use Rattle.spl_tree.specs.declared.unit.Parameter.{Parameter}
 use Rattle.language_model.specs.Composites.{is_empty}
 use Rattle.language_model.specs.Declarations.{Name, is_same, repeated_after}
-use Rattle.language_model.specs.Invoking.{is_among, is_argument, has_value, fit_parameters}
+use Rattle.language_model.specs.Invoking.{is_among, fit_parameters}
+use Rattle.language_model.specs.parts.Invoking.{is_argument}
+use Rattle.language_model.proofs.parts.Invoking.{has_value}
 use Rattle.composite_tables.specs.steps.Arguments.{argument_names, fit_once}
 use Rattle.spl_value.proofs.Bools.{and_false}
 

@@ -13,7 +13,8 @@ use Rattle.spl_tree.specs.declared.unit.InputPort.{InputPort}
 use Rattle.spl_tree.specs.declared.unit.Invocation.{Invocation}
 use Rattle.language_model.specs.declared.expansion.Source.{Source}
 use Rattle.language_model.specs.Composites.{composites}
-use Rattle.language_model.specs.Expansion.{Inlined, names_of_port, own_or_input, place_of, port_names, sources_of, taken_in}
+use Rattle.language_model.specs.Expansion.{Inlined, names_of_port, place_of, port_names, sources_of, taken_in}
+use Rattle.language_model.proofs.parts.Expansion.{own_or_input}
 use Rattle.language_model.specs.Invoking.{stream_names}
 use Rattle.composite_tables.specs.declared.made.Body.{Body}
 use Rattle.composite_tables.specs.declared.made.Input.{Input}

@@ -4,7 +4,8 @@ use Rattle.std.specs.List.{cons_option}
 use Rattle.std.proofs.Common.{refl, ap, ◌∙◌, drop, add-one, subst, arith}
 use Rattle.spl_tree.specs.declared.unit.Composite.{Composite}
 use Rattle.spl_tree.specs.declared.unit.Definition.{Definition}
-use Rattle.language_model.specs.Composites.{composites, composite_named, has_no_ports, portless, behind_first, only_one, if_main, named_or_only, main_of}
+use Rattle.language_model.specs.Composites.{composites, composite_named, has_no_ports, if_main, main_of}
+use Rattle.language_model.proofs.parts.Composites.{portless, behind_first, only_one, named_or_only}
 use Rattle.language_model.specs.Scopes.{At, at_place, first_from}
 use Rattle.spl_value.proofs.Lists.{next_rest as drop_at}
 

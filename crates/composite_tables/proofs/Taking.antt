@@ -5,7 +5,8 @@ use Rattle.std.proofs.Common.{refl, sym, ap, subst, ◌∙◌, arith}
 use Rattle.std.proofs.lemmas.List.{length-map}
 use Rattle.std.proofs.lemmas.Option.{none-some, slice_get_within}
 use Rattle.spl_tree.specs.declared.unit.Composite.{Composite}
-use Rattle.language_model.specs.Expansion.{Inlined, input_sources, own_or_input, place_of, source, sources_of}
+use Rattle.language_model.specs.Expansion.{Inlined, input_sources, place_of, source, sources_of}
+use Rattle.language_model.proofs.parts.Expansion.{own_or_input}
 use Rattle.language_model.specs.Invoking.{input_names, stream_names}
 use Rattle.composite_tables.specs.declared.made.Input.{Input}
 use Rattle.composite_tables.specs.declared.made.Taken.TheVariants as T

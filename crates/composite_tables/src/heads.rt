@@ -1,7 +1,8 @@
 //! Whether an invocation fits the head of the composite that it invokes.
 ghost use Rattle.std.specs.Prelude.{◌≡◌, ◌&&◌, ◌||◌, List, [], ℕ, IfOk, is_some};
 ghost use Rattle.std.specs.List.{list_all};
-ghost use Rattle.language_model.specs.Invoking.{is_among, stream_names, has_arguments_alone, fit_parameters, fits_head};
+ghost use Rattle.language_model.specs.Invoking.{is_among, stream_names, fit_parameters, fits_head};
+ghost use Rattle.language_model.specs.parts.Invoking.{has_arguments_alone};
 ghost use Rattle.program_tables.specs.Names.{HoldsNames};
 ghost use Rattle.composite_tables.specs.steps.Arguments.{FitArguments};
 

@@ -4,7 +4,8 @@ ghost use Rattle.std.specs.List.{sum_by};
 ghost use Rattle.std.specs.Option.{option_or};
 ghost use Rattle.composite_tables.specs.Inputs.{AreInputs, StandsFor, IsBody};
 ghost use Rattle.composite_tables.specs.steps.Reading.{CountsSources};
-ghost use Rattle.language_model.specs.Expansion.{Inlined, sources_of, port_names, ports_of};
+ghost use Rattle.language_model.specs.Expansion.{Inlined, sources_of, port_names};
+ghost use Rattle.language_model.specs.parts.Expansion.{ports_of};
 
 use crate::made::{Input, Taken};
 use crate::tables::Scope;

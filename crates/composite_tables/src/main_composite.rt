@@ -2,7 +2,8 @@
 ghost use Rattle.std.specs.Prelude.{◌≡◌, ◌<◌, drop, is_some, IfSome, None};
 ghost use Rattle.std.specs.List.{list_all};
 ghost use Rattle.std.specs.Option.{option_map, option_map_or};
-ghost use Rattle.language_model.specs.Composites.{composites as composites_of, has_no_ports, may_be_main, if_main, main_of};
+ghost use Rattle.language_model.specs.Composites.{composites as composites_of, has_no_ports, if_main, main_of};
+ghost use Rattle.language_model.specs.parts.Composites.{may_be_main};
 ghost use Rattle.language_model.specs.Scopes.{at_place, first_from};
 
 use crate::tables::{Composites, Scope};

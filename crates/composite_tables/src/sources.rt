@@ -3,7 +3,8 @@ ghost use Rattle.std.specs.Prelude.{◌≡◌, ◌+◌, ◌^◌, ◌<◌, ◌≤
 ghost use Rattle.std.specs.Option.{option_map};
 ghost use Rattle.composite_tables.specs.Inputs.{StandsFor, AreKept};
 ghost use Rattle.composite_tables.specs.steps.Reading.{composite_at, names_in, list_followed, list_left, most_names, size_followed, size_left};
-ghost use Rattle.language_model.specs.Expansion.{Inlined, sources_of, ports_of};
+ghost use Rattle.language_model.specs.Expansion.{Inlined, sources_of};
+ghost use Rattle.language_model.specs.parts.Expansion.{ports_of};
 
 use crate::inputs::taken_by;
 use crate::made::{Body, Input, Taken};

@@ -1,16 +1,16 @@
 -- What the final marker of an input ends, by the counts that it leaves.
 use Rattle.std.proofs.Common.{inl, inr, ◌≡◌, ◌<◌, ◌+◌, ◌-◌, ℕ, zero, suc, true, false, ◌==◌, not, if◌then◌else◌, List, [], ◌∷◌, length, slice_get, Option, Some, None, refl, sym, ap, subst, ◌∙◌, arith}
 use Rattle.std.specs.Prelude.{slice_set}
-use Rattle.std.proofs.lemmas.Bool.{eq-eqb, ne_eqb, cases_eq}
+use Rattle.std.proofs.lemmas.Bool.{eq-eqb, ne_eqb, cases_eq, lt-ltb}
 use Rattle.spl_value.specs.declared.item.Item.TheVariants as I
 use Rattle.stream_model.specs.Stream.{Event, came}
-use Rattle.stream_model.specs.Operators.{Operator, port_at, ports}
+use Rattle.stream_model.specs.Operators.{Operator, ports}
+use Rattle.stream_model.specs.parts.Operators.{port_at}
 use Rattle.stream_model.specs.PortEvents.{is_last, is_over, is_waiting}
 use Rattle.connection_counts.specs.Counting.{CountsOpen, open_at, open_from, open_in}
 use Rattle.connection_counts.proofs.Counting.{none_open, one_fewer}
 use Rattle.spl_value.proofs.Lists.{get_set_same, get_within}
 use Rattle.stream_model.proofs.ByPorts.{input_port}
-use Rattle.std.proofs.lemmas.Bool.{lt-ltb}
 use Rattle.spl_value.proofs.Results.{some_same}
 
 -- the port of an input, and its counts before and after the input's final marker

@@ -30,7 +30,8 @@ use Rattle.language_model.specs.WorldFits.{BodyFits, Leaves, VariablesFit}
 use Rattle.evaluation_laws.specs.HandlerLaws.{StateFits}
 use Rattle.evaluation_laws.specs.ImmutableLaws.{ImmutableLaw}
 use Rattle.stream_model.specs.Bodies.{most_turns}
-use Rattle.stream_model.specs.Customs.{changed, handler, item_leaves, left_by, marker_env, tuple_env}
+use Rattle.stream_model.specs.Customs.{changed, handler, item_leaves, left_by, marker_env}
+use Rattle.stream_model.specs.parts.Customs.{tuple_env}
 use Rattle.stream_model.specs.Operators.{Operator}
 use Rattle.stream_model.specs.Fitting.{HasPort}
 use Rattle.custom_logic.specs.steps.Running.{MayRun, MayRunOn}

@@ -7,7 +7,8 @@ use Rattle.std.specs.Map.{update}
 use Rattle.spl_tree.specs.declared.expression.Placed.{Placed}
 use Rattle.language_model.specs.Scopes.{At, at_place, first_from}
 use Rattle.language_model.specs.Recursion as D
-use Rattle.language_model.specs.Recursion.{call_among, calls_among}
+use Rattle.language_model.specs.Recursion.{calls_among}
+use Rattle.language_model.proofs.parts.Recursion.{call_among}
 use Rattle.cycle_rules.specs.declared.recursion.Caller.{Caller}
 use Rattle.cycle_rules.specs.steps.Named.{caller_seen, callers_seen, place_from, found_place}
 use Rattle.spl_value.proofs.Lists.{next_rest}

@@ -2,7 +2,8 @@
 use Rattle.std.proofs.Common.{◌≡◌, ◌<◌, ◌≤◌, ◌↔◌, ℕ, suc, List, length, Some, ap, sym, inl, inr, subst, arith}
 use Rattle.std.specs.Prelude.{slice_get}
 use Rattle.spl_tree.specs.declared.expression.Placed.{Placed}
-use Rattle.language_model.specs.Recursion.{Calls, IsCall, Leads, directly, through, IsBack, IsAcyclic, IsFirstRecursion}
+use Rattle.language_model.specs.Recursion.{Calls, IsCall, Leads, directly, through, IsBack, IsFirstRecursion}
+use Rattle.language_model.specs.parts.Recursion.{IsAcyclic}
 use Rattle.place_sets.specs.declared.place_set.PlaceSet.{PlaceSet}
 use Rattle.place_sets.specs.Places.{HasPlace}
 use Rattle.cycle_rules.specs.steps.Callers.{Lists, Reached, near, far, AreCallers}

@@ -6,9 +6,11 @@ use Rattle.spl_tree.specs.declared.expression.Placed.{Placed}
 use Rattle.std.specs.Borrow.{Bor}
 use Rattle.spl_tree.specs.Trees.{placed}
 use Rattle.spl_tree.specs.declared.unit.Definition.{Definition}
-use Rattle.language_model.specs.Mentions.{calls, called_at}
+use Rattle.language_model.specs.Mentions.{calls}
+use Rattle.language_model.proofs.parts.Mentions.{called_at}
 use Rattle.language_model.specs.Composites.{as_function, as_composite}
-use Rattle.language_model.specs.Recursion.{function_caller, composite_caller, function_callers, composite_callers}
+use Rattle.language_model.specs.Recursion.{function_callers, composite_callers}
+use Rattle.language_model.specs.parts.Recursion.{function_caller, composite_caller}
 use Rattle.program_tables.specs.declared.mentions.Mention.{Mention}
 use Rattle.program_tables.specs.declared.mentions.Mention.TheVariants as M
 use Rattle.program_tables.specs.Mentioned.{seen, mentioned, mentions_seen}

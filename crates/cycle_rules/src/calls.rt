@@ -1,6 +1,7 @@
 //! Who reaches itself among callers that are numbers.
 ghost use Rattle.std.specs.Prelude.{◌≡◌, ◌<◌, ◌⊎◌, ◌∷◌, [], ◌^◌, ℕ, ◌↔◌, length, IfOk, OnOk, MatchOption};
-ghost use Rattle.language_model.specs.Recursion.{IsCall, Leads, IsAcyclic, IsFirstRecursion};
+ghost use Rattle.language_model.specs.Recursion.{IsCall, Leads, IsFirstRecursion};
+ghost use Rattle.language_model.specs.parts.Recursion.{IsAcyclic};
 ghost use Rattle.place_sets.specs.Places.{HasPlace, IsSet};
 ghost use Rattle.cycle_rules.specs.steps.Callers.{Lists, Reached, AreEmpty, AreCallers, Notes, NotesAll};
 ghost use Rattle.cycle_rules.specs.steps.Taking.{Readies, IsTaken, Takes, Misses};

@@ -3,7 +3,8 @@ ghost use Rattle.std.specs.Prelude.{◌≡◌, ◌<◌, ◌^◌, ℕ, List, [], 
 ghost use Rattle.std.specs.HashMap as hash;
 ghost use Rattle.std.specs.Str.{bytes_eq};
 ghost use Rattle.language_model.specs.Mentions.{calls};
-ghost use Rattle.language_model.specs.Recursion.{function_caller, composite_caller, function_callers, composite_callers, calls_among, IsFirstIn, HasNoRecursion, IsRecursive, IsNotRecursive};
+ghost use Rattle.language_model.specs.Recursion.{function_callers, composite_callers, calls_among, IsFirstIn, HasNoRecursion, IsRecursive, IsNotRecursive};
+ghost use Rattle.language_model.specs.parts.Recursion.{function_caller, composite_caller};
 ghost use Rattle.program_tables.specs.Mentioned.{mentions_seen};
 ghost use Rattle.cycle_rules.specs.steps.Named.{name_seen, caller_seen, callers_seen, place_from, found_place};
 

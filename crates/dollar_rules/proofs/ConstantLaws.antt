@@ -13,7 +13,8 @@ use Rattle.spl_tree.specs.declared.expression.ExprKind.TheOpen.{ExprKind-F}
 use Rattle.spl_tree.specs.declared.expression.ExprKind.TheViews.{out-ExprKind}
 use Rattle.spl_tree.specs.declared.expression.ExprKind.TheFolds.{fold-ExprKind, fold_out-ExprKind, map-ExprKind}
 use Rattle.spl_tree.specs.Trees.{Expr, Prefix}
-use Rattle.language_model.specs.Parameters.{level_constant, is_constant}
+use Rattle.language_model.specs.Parameters.{level_constant}
+use Rattle.language_model.specs.parts.Parameters.{is_constant}
 
 abbrev pub constant : ExprKind → Bool
 constant = fold-ExprKind Bool level_constant

@@ -13,7 +13,8 @@ use Rattle.spl_tree.specs.declared.unit.Definition.{Definition}
 use Rattle.spl_tree.specs.declared.unit.Parameter.{Parameter}
 use Rattle.language_model.specs.declared.scope.Dollar.{Dollar}
 use Rattle.language_model.specs.declared.scope.Scope.{Scope}
-use Rattle.language_model.specs.Parameters.{Tables, constant_scope, expansion_dollars, parameters_given, table_at}
+use Rattle.language_model.specs.Parameters.{Tables, constant_scope, expansion_dollars, table_at}
+use Rattle.language_model.specs.parts.Parameters.{parameters_given}
 use Rattle.language_model.specs.DollarTargets.{arguments_of, composite_of}
 use Rattle.language_model.specs.TypeNames.{Types, composite_types}
 use Rattle.written_types.specs.declared.finding.TypeScope.{TypeScope}

@@ -10,7 +10,8 @@ use Rattle.spl_tree.specs.declared.unit.CompositeParameter.{CompositeParameter}
 use Rattle.spl_tree.specs.declared.unit.Parameter.{Parameter}
 use Rattle.language_model.specs.DollarLaws.{dollars_in}
 use Rattle.language_model.specs.Leading.{leads_back}
-use Rattle.language_model.specs.Parameters.{default_leads, has_meaning, parameter_leads, parameter_place}
+use Rattle.language_model.specs.Parameters.{has_meaning, parameter_leads, parameter_place}
+use Rattle.language_model.specs.parts.Parameters.{default_leads}
 use Rattle.language_model.specs.Scopes.{At, at_place, first_from}
 use Rattle.language_model.specs.DollarTargets.{value_named}
 use Rattle.dollar_rules.specs.steps.Heads.{rows_of}

@@ -14,7 +14,9 @@ use Rattle.spl_tree.specs.Trees.{Expr}
 use Rattle.language_model.specs.declared.scope.Dollar.{Dollar}
 use Rattle.language_model.specs.DollarLaws.{MentionedLaw, dollars_in}
 use Rattle.language_model.specs.FitLaws.{no_names}
-use Rattle.language_model.specs.Parameters.{constant_typing, default_leads, default_typing, is_constant, own_from, parameter_leads, parameter_place, value_typing}
+use Rattle.language_model.specs.Parameters.{constant_typing, own_from, parameter_leads, parameter_place}
+use Rattle.language_model.specs.parts.Parameters.{default_leads, is_constant}
+use Rattle.language_model.proofs.parts.Parameters.{default_typing, value_typing}
 use Rattle.language_model.specs.Scopes.{dollar_of}
 use Rattle.language_model.specs.DollarTargets.{value_named}
 use Rattle.language_model.specs.TypeNames.{type_meant}

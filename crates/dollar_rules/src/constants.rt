@@ -1,7 +1,7 @@
 //! Which expressions may be the value of a `$` parameter.
 ghost use Rattle.std.specs.Prelude.{◌≡◌, ◌&&◌};
 ghost use Rattle.std.specs.List.{list_all};
-ghost use Rattle.language_model.specs.Parameters.{is_constant};
+ghost use Rattle.language_model.specs.parts.Parameters.{is_constant};
 
 use spl_tree::{Expr, ExprKind, Field};
 

@@ -1,7 +1,8 @@
 //! The parameters of a composite, with what is given for them.
 ghost use Rattle.std.specs.Prelude.{◌≡◌, IfOk, filter_map};
 ghost use Rattle.std.specs.Option.{option_copied};
-ghost use Rattle.language_model.specs.Parameters.{constant_scope, constant_typing, default_leads, has_meaning, parameter_leads, parameter_place, parameter_typing};
+ghost use Rattle.language_model.specs.Parameters.{constant_scope, constant_typing, has_meaning, parameter_leads, parameter_place, parameter_typing};
+ghost use Rattle.language_model.specs.parts.Parameters.{default_leads};
 ghost use Rattle.language_model.specs.Finds.{Finds};
 ghost use Rattle.dollar_rules.specs.steps.Mentioned.{names_seen};
 ghost use Rattle.written_types.specs.TypeScopes.{types_in};

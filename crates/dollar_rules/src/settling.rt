@@ -3,7 +3,8 @@
 ghost use Rattle.std.specs.Prelude.{◌≡◌, ◌<◌, [], ℕ, IfOk, OnOk, IsTrue, ◌↔◌, true, false, slice_get, take, length, ◌≤◌};
 ghost use Rattle.std.specs.List.{Contains};
 ghost use Rattle.spl_tree.specs.declared.unit.CompositeParameter.{CompositeParameter};
-ghost use Rattle.language_model.specs.Parameters.{constant_scope, parameter_leads, parameters_given};
+ghost use Rattle.language_model.specs.Parameters.{constant_scope, parameter_leads};
+ghost use Rattle.language_model.specs.parts.Parameters.{parameters_given};
 ghost use Rattle.dollar_rules.specs.steps.Given.{IsDone, IsReady, is_marked, marks_in, means};
 ghost use Rattle.dollar_rules.specs.steps.Settling.{IsSettled, Settles, given_of};
 ghost use Rattle.written_types.specs.TypeScopes.{types_in};

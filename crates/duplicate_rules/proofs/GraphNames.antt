@@ -2,7 +2,8 @@
 use Rattle.std.specs.Prelude.{◌≡◌, ℕ, ◌+◌, ◌<◌, ◌≤◌, Bool, true, false, ◌||◌, ◌&&◌, List, [], ◌∷◌, ◌++◌, map, flat_map, length, drop}
 use Rattle.std.proofs.Common.{refl, sym, ap, ◌∙◌, append_assoc, append-nil, get_or}
 use Rattle.std.proofs.lemmas.List.{drop_all, map-append}
-use Rattle.language_model.specs.Declarations.{Name, is_same, Declared, OutputPort, InputPort, MadeStream, Alias, is_declared}
+use Rattle.language_model.specs.Declarations.{Name, is_same, Declared, OutputPort, InputPort, MadeStream, Alias}
+use Rattle.language_model.specs.parts.Declarations.{is_declared}
 use Rattle.duplicate_rules.specs.declared.declarations.graphs.GraphName.{GraphName}
 use Rattle.duplicate_rules.specs.steps.Graphs.{shown, outputs_of, others_of}
 use Rattle.duplicate_rules.specs.steps.NamesBefore.{Has}

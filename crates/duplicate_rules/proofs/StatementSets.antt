@@ -14,7 +14,8 @@ use Rattle.spl_tree.specs.declared.statement.StmtKind.TheOpen.{StmtKind-F}
 use Rattle.spl_tree.specs.declared.statement.StmtKind.TheViews.{out-StmtKind}
 use Rattle.spl_tree.specs.declared.statement.StmtKind.TheFolds.{fold_out-StmtKind, map-StmtKind}
 use Rattle.spl_tree.specs.Trees.{Expr, Stmt, TypeExpr}
-use Rattle.language_model.specs.Declarations.{Name, Sets, Scoped, block_of, block_sets, level_statement, statement_scoped, type_sets}
+use Rattle.language_model.specs.Declarations.{Name, Sets, Scoped, block_of, block_sets, level_statement, type_sets}
+use Rattle.language_model.specs.parts.Declarations.{statement_scoped}
 use Rattle.duplicate_rules.specs.steps.Variables.{level_variable, own_variable}
 
 abbrev pub inner : StmtKind → Sets

@@ -6,7 +6,7 @@ use Rattle.spl_tree.specs.declared.graph.Expansion.{Expansion}
 use Rattle.spl_tree.specs.declared.unit.Definition.{Definition}
 use Rattle.spl_tree.specs.Trees.{Expr}
 use Rattle.language_model.specs.DollarTargets.{followed}
-use Rattle.language_model.specs.SinkFiles.{literal_text, text_in}
+use Rattle.language_model.specs.parts.SinkFiles.{literal_text, text_in}
 
 pub text_is : (unit : List Definition) (expansions : List Expansion) (number : ℕ) (e : Expr) (follow : Expr → Option Expr) (found : Option Expr) (text : Option (List ℕ))
     → follow ≡ followed unit expansions number → found ≡ follow e → text ≡ option_and_then literal_text found

@@ -4,7 +4,8 @@ ghost use Rattle.std.specs.List.{list_any};
 ghost use Rattle.std.specs.Option.{option_copied, option_map, option_to_list};
 ghost use Rattle.std.specs.Str.{bytes_eq};
 ghost use Rattle.language_model.specs.Declarations.{first_of, repeated};
-ghost use Rattle.language_model.specs.SinkFiles.{literal_text, text_in, file_of, op_file, is_had};
+ghost use Rattle.language_model.specs.SinkFiles.{file_of, op_file, is_had};
+ghost use Rattle.language_model.specs.parts.SinkFiles.{literal_text, text_in};
 ghost use Rattle.duplicate_rules.specs.steps.Seen.{file_seen};
 
 use literal_sites::Follow;

@@ -6,7 +6,7 @@ use Rattle.spl_value.specs.Values.{fits}
 use Rattle.language_model.specs.declared.checked.StateVariable.{StateVariable}
 use Rattle.language_model.specs.CodeFits.{CodeFits}
 use Rattle.language_model.specs.FitLaws.{no_names}
-use Rattle.language_model.specs.LogicTyping.{is_plain}
+use Rattle.language_model.specs.parts.LogicTyping.{is_plain}
 use Rattle.evaluation_laws.specs.HandlerLaws.{AreFirst, FirstValuesLaw}
 use Rattle.evaluation_laws.specs.LiteralLaws.{IsAlways}
 use Rattle.evaluation_laws.proofs.PlainCodes.{literal_law}

@@ -26,7 +26,9 @@ use Rattle.language_model.specs.BodyFits as B
 use Rattle.language_model.specs.BodyFits.{Purpose, with_variable, PlaceFits, StatementFits, RowFits, ArmsFit}
 use Rattle.language_model.specs.Functions.{bodies_of}
 use Rattle.language_model.specs.Outcomes.{Outcome, Done, Faulted, Stuck}
-use Rattle.language_model.specs.Statements.{State, Bodies, Left, scoped, row_acts, left_by, body_leaves}
+use Rattle.language_model.specs.Statements.{State, Bodies, Left, scoped, body_leaves}
+use Rattle.language_model.specs.parts.Statements.{row_acts}
+use Rattle.language_model.proofs.parts.Statements.{left_by}
 use Rattle.language_model.proofs.Returning.{Only, only_followed}
 use Rattle.evaluation_laws.specs.ImmutableLaws.{ImmutableLaw, StateKeptLaw}
 use Rattle.language_model.proofs.Keeping.{arms_pass, level_passes, statement_passes, row_passes, IsKept, LeftBy, body_keeps}

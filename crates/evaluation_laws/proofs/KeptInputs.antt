@@ -7,7 +7,9 @@ use Rattle.spl_tree.specs.declared.code.Slot.{Slot}
 use Rattle.language_model.specs.Evaluation.{slot_value}
 use Rattle.language_model.specs.Slots.{row_slots}
 use Rattle.evaluation_laws.specs.SlotsLaws.{KeepsLaw}
-use Rattle.language_model.specs.Statements.{State, Bodies, with_vars, declared, ended, submitted, row_acts}
+use Rattle.language_model.specs.Statements.{State, Bodies, with_vars, declared, submitted}
+use Rattle.language_model.proofs.parts.Statements.{ended}
+use Rattle.language_model.specs.parts.Statements.{row_acts}
 use Rattle.evaluation_laws.proofs.Extending.{Extends, extends_with_none, at_turns}
 use Rattle.evaluation_laws.proofs.LikeStatements.{Likeness, LedAlike, rows_follow}
 use Rattle.evaluation_laws.proofs.NamedSlots.{all_of_any}

@@ -21,11 +21,13 @@ use Rattle.language_model.specs.declared.flow.Flow.{Flow}
 use Rattle.language_model.specs.declared.flow.Flow.TheVariants as F
 use Rattle.language_model.specs.Changes.{step_of, changed, change_of}
 use Rattle.language_model.specs.Evaluation.{all_of, code_value, slot_value, world_of}
-use Rattle.language_model.specs.Operators.{truth_of}
+use Rattle.language_model.specs.parts.Operators.{truth_of}
 use Rattle.language_model.specs.Outcomes.{Outcome, Done, followed, need, settled}
 use Rattle.language_model.specs.Slots.{names_of, names_in_taking, place_slots, change_slots, returned_slots, statement_slots, row_slots}
 use Rattle.language_model.specs.StatementLaws.{arms_act, block_is, declare_is, change_is, evaluate_is, call_is, if_is, while_is, for_is, break_is, continue_is, return_is, submit_is, submit_window_is}
-use Rattle.language_model.specs.Statements.{State, Acts, Bodies, Left, body_leaves, returned_by, calls_by, value_in, truth_in, with_vars, declared, ended, scoped, submitted, step_value, step_values, steps_taken, changed_at, change_value, change_values, then_rest, then_again, turn_while, turns_while, turns_over, level_elements, level_tuple, return_acts, statement_acts, row_acts}
+use Rattle.language_model.specs.Statements.{State, Acts, Bodies, Left, body_leaves, returned_by, calls_by, value_in, truth_in, with_vars, declared, scoped, submitted, step_value, steps_taken, change_value, change_values, then_rest, then_again, turn_while, turns_while, turns_over, level_elements, level_tuple}
+use Rattle.language_model.proofs.parts.Statements.{ended}
+use Rattle.language_model.specs.parts.Statements.{step_values, changed_at, return_acts, statement_acts, row_acts}
 use Rattle.evaluation_laws.proofs.Extending.{Extends, Same, followed_extends, done_extends, same_followed, need_extends, settled_extends, either_extends, enter_extends}
 use Rattle.evaluation_laws.proofs.LikeCodes.{codes_follow}
 use Rattle.evaluation_laws.proofs.NamedSlots.{All, all_front, all_behind, arm_slots, at_form, block_slots, declare_slots, changed_slots, evaluate_slots, call_slots, if_slots, while_slots, for_slots, return_slots, submit_slots}

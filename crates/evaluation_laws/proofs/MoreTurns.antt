@@ -12,7 +12,8 @@ use Rattle.language_model.specs.Evaluation.{World, code_value, slot_value}
 use Rattle.language_model.specs.Functions.{function_env, bodies_of, value, runs}
 use Rattle.language_model.specs.Outcomes.{Outcome, Done, Faulted}
 use Rattle.language_model.specs.Slots.{names_of, row_slots}
-use Rattle.language_model.specs.Statements.{State, Bodies, Left, calls_by, with_vars, declared, ended, submitted, body_leaves}
+use Rattle.language_model.specs.Statements.{State, Bodies, Left, calls_by, with_vars, declared, submitted, body_leaves}
+use Rattle.language_model.proofs.parts.Statements.{ended}
 use Rattle.language_model.specs.TurnsLaws.{ValueTurnsLaw, ValueFaultsLaw, RunsTurnsLaw, RunsFaultsLaw}
 use Rattle.evaluation_laws.proofs.Extending.{Extends, Same, same_followed, need_extends}
 use Rattle.evaluation_laws.proofs.LikeCodes.{codes_follow}

@@ -32,7 +32,7 @@ use Rattle.language_model.specs.EvaluationLaws.{value_laws}
 use Rattle.language_model.specs.FitLaws.{no_names}
 use Rattle.language_model.specs.Functions.{runs}
 use Rattle.language_model.specs.Keeping.{HandlersFit, marker_scope, tuple_scope}
-use Rattle.language_model.specs.LogicTyping.{is_plain}
+use Rattle.language_model.specs.parts.LogicTyping.{is_plain}
 use Rattle.language_model.specs.Outcomes.{Done, Faulted}
 use Rattle.language_model.specs.Scopes.{at_place, variable_of}
 use Rattle.language_model.specs.Slots.{level_names, names_of, row_slots}

@@ -13,7 +13,8 @@ use Rattle.language_model.specs.Evaluation.{slot_value}
 use Rattle.language_model.specs.Functions.{bodies_of}
 use Rattle.language_model.specs.Outcomes.{Done}
 use Rattle.evaluation_laws.specs.SlotsLaws.{NoneIs, with_value, left_with, VariablesLaw, UnchangedLaw}
-use Rattle.language_model.specs.Statements.{State, Bodies, Left, with_vars, declared, ended, submitted, body_leaves}
+use Rattle.language_model.specs.Statements.{State, Bodies, Left, with_vars, declared, submitted, body_leaves}
+use Rattle.language_model.proofs.parts.Statements.{ended}
 use Rattle.evaluation_laws.proofs.Extending.{Extends, extends_with_none, at_turns, made_of}
 use Rattle.evaluation_laws.proofs.LikeStatements.{Likeness, left_alike}
 

@@ -19,12 +19,16 @@ use Rattle.spl_tree.specs.declared.code.Slot.{Slot}
 use Rattle.spl_tree.specs.declared.code.UnaryCode.{UnaryCode}
 use Rattle.spl_tree.specs.declared.code.UnaryCode.TheVariants as U
 use Rattle.language_model.specs.CodeFits.{CodeFits}
-use Rattle.language_model.specs.Evaluation.{World, Calls, map_of, tuple_of, unaries_of, code_value, world_of}
+use Rattle.language_model.specs.Evaluation.{World, Calls, tuple_of, unaries_of, code_value, world_of}
+use Rattle.language_model.specs.parts.Evaluation.{map_of}
 use Rattle.language_model.specs.EvaluationLaws.{values_of, pair_values, field_values, literal_is, list_is, map_is, tuple_is, unary_is}
 use Rattle.language_model.specs.FitLaws.{no_names}
-use Rattle.language_model.specs.Functions.{function_env, calls_of}
-use Rattle.language_model.specs.LogicTyping.{is_minus, is_plain, level_plain}
-use Rattle.language_model.specs.Operators.{level_unary, unary_of}
+use Rattle.language_model.specs.Functions.{function_env}
+use Rattle.language_model.specs.parts.Functions.{calls_of}
+use Rattle.language_model.specs.LogicTyping.{is_minus, level_plain}
+use Rattle.language_model.specs.parts.LogicTyping.{is_plain}
+use Rattle.language_model.specs.Operators.{level_unary}
+use Rattle.language_model.specs.parts.Operators.{unary_of}
 use Rattle.language_model.specs.Outcomes.{Outcome, Done, followed, need, settled}
 use Rattle.language_model.specs.WorldFits.{ComesTo, Fits}
 use Rattle.language_model.proofs.Calling.{never_stuck_law}

@@ -13,7 +13,8 @@ use Rattle.language_model.specs.Evaluation.{code_value, slot_value}
 use Rattle.language_model.specs.Functions.{bodies_of}
 use Rattle.language_model.specs.Slots.{row_slots}
 use Rattle.evaluation_laws.specs.SlotsLaws.{InputsLaw, AgreementLaw}
-use Rattle.language_model.specs.Statements.{State, Bodies, Left, with_vars, declared, ended, submitted, body_leaves}
+use Rattle.language_model.specs.Statements.{State, Bodies, Left, with_vars, declared, submitted, body_leaves}
+use Rattle.language_model.proofs.parts.Statements.{ended}
 use Rattle.evaluation_laws.proofs.Extending.{Same, extends_with_none, at_turns, same_answers}
 use Rattle.evaluation_laws.proofs.LikeCodes.{codes_follow}
 use Rattle.evaluation_laws.proofs.LikeStatements.{Likeness, left_alike}

@@ -4,7 +4,9 @@ use Rattle.std.proofs.Common.{refl, sym, ap, ◌∙◌, append_assoc}
 use Rattle.spl_tree.specs.declared.code.Slot.{Slot}
 use Rattle.language_model.specs.declared.flow.Flow.{Flow}
 use Rattle.language_model.specs.declared.outs.Output.{Output}
-use Rattle.language_model.specs.Statements.{State, Bodies, with_vars, declared, ended, submitted, row_acts}
+use Rattle.language_model.specs.Statements.{State, Bodies, with_vars, declared, submitted}
+use Rattle.language_model.proofs.parts.Statements.{ended}
+use Rattle.language_model.specs.parts.Statements.{row_acts}
 use Rattle.language_model.specs.Evaluation.{slot_value}
 use Rattle.language_model.specs.Slots.{row_slots}
 use Rattle.evaluation_laws.specs.SubmitsLaws.{in_front, SubmitsLaw}

@@ -9,7 +9,8 @@ use Rattle.spl_tree.specs.declared.body.Statement.{Statement}
 use Rattle.spl_tree.specs.declared.code.Code.{Code}
 use Rattle.language_model.specs.declared.env.Env.{Env}
 use Rattle.language_model.specs.Evaluation.{World, code_value}
-use Rattle.language_model.specs.Functions.{function_env, bodies_of, calls_of, value, runs}
+use Rattle.language_model.specs.Functions.{function_env, bodies_of, value, runs}
+use Rattle.language_model.specs.parts.Functions.{calls_of}
 use Rattle.language_model.specs.Outcomes.{Outcome, Done, Faulted, Stuck}
 use Rattle.language_model.specs.Statements.{body_leaves}
 use Rattle.evaluation_laws.proofs.MoreTurns.{value_faults, runs_faults}

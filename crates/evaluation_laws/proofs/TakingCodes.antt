@@ -11,10 +11,12 @@ use Rattle.spl_tree.specs.declared.code.Code.TheVariants as S
 use Rattle.spl_tree.specs.declared.code.Selector.{Selector}
 use Rattle.spl_tree.specs.declared.code.Selector.TheVariants as K
 use Rattle.spl_tree.specs.declared.code.UnaryCode.{UnaryCode}
-use Rattle.language_model.specs.Evaluation.{World, Meaning, Calls, map_of, tuple_of, unaries_of, truth, binary, same_marker, code_value}
+use Rattle.language_model.specs.Evaluation.{World, Meaning, Calls, tuple_of, unaries_of, truth, binary, same_marker, code_value}
+use Rattle.language_model.specs.parts.Evaluation.{map_of}
 use Rattle.language_model.specs.EvaluationLaws.{values_of, pair_values, field_values, takings_value, truth_value, literal_is, name_is, list_is, map_is, tuple_is, select_is, unary_is, binary_is, conditional_is, built_in_is, call_is, is_marker_is, is_not_marker_is}
-use Rattle.language_model.specs.BuiltInCalls.{built_in_of}
-use Rattle.language_model.specs.Operators.{binary_of, unary_of, level_member, level_element, level_at_key, truth_of}
+use Rattle.language_model.specs.parts.BuiltInCalls.{built_in_of}
+use Rattle.language_model.specs.Operators.{binary_of, level_member, level_element, level_at_key}
+use Rattle.language_model.specs.parts.Operators.{unary_of, truth_of}
 use Rattle.language_model.specs.Outcomes.{Outcome, followed, settled}
 use Rattle.language_model.proofs.CodeInduction.{CodeSteps, OfPair, OfField, OfTaking, code_ind}
 use Rattle.evaluation_laws.proofs.Taking.{Takes, takes_none, takes_followed, takes_need, takes_settled, takes_either, takes_by, takes_enter}

@@ -20,10 +20,12 @@ use Rattle.language_model.specs.declared.flow.Flow.{Flow}
 use Rattle.language_model.specs.declared.flow.Flow.TheVariants as F
 use Rattle.language_model.specs.Changes.{step_of, changed, change_of}
 use Rattle.language_model.specs.Evaluation.{all_of, code_value, world_of}
-use Rattle.language_model.specs.Operators.{truth_of}
+use Rattle.language_model.specs.parts.Operators.{truth_of}
 use Rattle.language_model.specs.Outcomes.{Outcome, Done, Faulted, followed, need, settled}
 use Rattle.language_model.specs.StatementLaws.{arms_act, block_is, declare_is, change_is, evaluate_is, call_is, if_is, while_is, for_is, break_is, continue_is, return_is, submit_is, submit_window_is}
-use Rattle.language_model.specs.Statements.{State, Acts, Bodies, returned_by, body_leaves, calls_by, value_in, truth_in, with_vars, declared, ended, scoped, submitted, step_value, step_values, steps_taken, changed_at, change_value, change_values, then_rest, then_again, turn_while, turns_while, turns_over, level_elements, level_tuple, return_acts, statement_acts, row_acts}
+use Rattle.language_model.specs.Statements.{State, Acts, Bodies, returned_by, body_leaves, calls_by, value_in, truth_in, with_vars, declared, scoped, submitted, step_value, steps_taken, change_value, change_values, then_rest, then_again, turn_while, turns_while, turns_over, level_elements, level_tuple}
+use Rattle.language_model.proofs.parts.Statements.{ended}
+use Rattle.language_model.specs.parts.Statements.{step_values, changed_at, return_acts, statement_acts, row_acts}
 use Rattle.language_model.proofs.StatementInduction.{OfArm, StatementSteps, statement_ind}
 use Rattle.evaluation_laws.proofs.Taking.{Takes, takes_none, takes_followed, takes_need, takes_settled, takes_either, takes_by, takes_within, takes_any, takes_enter, takes_each}
 use Rattle.evaluation_laws.proofs.TakingCodes.{codes_take}

@@ -10,7 +10,7 @@ use Rattle.language_model.specs.CodeFits.{CodeFits}
 use Rattle.language_model.specs.Evaluation.{World}
 use Rattle.language_model.specs.FitLaws.{no_names}
 use Rattle.language_model.specs.Functions.{value}
-use Rattle.language_model.specs.LogicTyping.{is_plain}
+use Rattle.language_model.specs.parts.LogicTyping.{is_plain}
 use Rattle.language_model.specs.Outcomes.{Done}
 
 -- whatever the functions are, and in every world, the code has this value, and takes no turn

@@ -13,7 +13,8 @@ use Rattle.language_model.specs.Evaluation.{World, Calls, code_value, slot_value
 use Rattle.language_model.specs.Functions.{runs}
 use Rattle.language_model.specs.Outcomes.{Done, followed}
 use Rattle.language_model.specs.Slots.{names_of, row_slots}
-use Rattle.language_model.specs.Statements.{Bodies, Left, State, row_acts}
+use Rattle.language_model.specs.Statements.{Bodies, Left, State}
+use Rattle.language_model.specs.parts.Statements.{row_acts}
 
 -- the statements name other slots than this one alone
 abbrev pub NoneIs : Slot → List Statement → Type 0

@@ -3,7 +3,8 @@ use Rattle.std.specs.Prelude.{◌≡◌, ℕ, List, ◌++◌}
 use Rattle.spl_tree.specs.declared.body.Statement.{Statement}
 use Rattle.language_model.specs.declared.outs.Output.{Output}
 use Rattle.language_model.specs.Outcomes.{Done, followed}
-use Rattle.language_model.specs.Statements.{State, Bodies, row_acts}
+use Rattle.language_model.specs.Statements.{State, Bodies}
+use Rattle.language_model.specs.parts.Statements.{row_acts}
 
 -- with others in front of its own submits
 abbrev pub in_front : List Output → State → State

@@ -4,7 +4,8 @@ use Rattle.std.proofs.Common.{refl, subst, sym}
 use Rattle.spl_tree.specs.declared.graph.Graph.{Graph}
 use Rattle.spl_tree.specs.declared.unit.Definition.{Definition}
 use Rattle.language_model.specs.CheckedGraph.{CheckedGraph}
-use Rattle.language_model.specs.Checking.{checked, each_stream, operators_checked}
+use Rattle.language_model.specs.Checking.{checked}
+use Rattle.language_model.specs.parts.Checking.{each_stream, operators_checked}
 use Rattle.language_model.specs.FunctionTyping.{functions_typing}
 use Rattle.language_model.specs.Numbering.{numbers_from}
 use Rattle.language_model.specs.Parameters.{dollar_tables}

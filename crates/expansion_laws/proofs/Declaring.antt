@@ -13,7 +13,9 @@ use Rattle.spl_tree.specs.declared.unit.HeadPort.{HeadPort}
 use Rattle.spl_tree.specs.declared.unit.Invocation.{Invocation}
 use Rattle.spl_tree.specs.declared.unit.OutputStream.{OutputStream}
 use Rattle.language_model.specs.Composites.{composites}
-use Rattle.language_model.specs.Declarations.{Name, is_same, repeated_after, repeated, Declared, OutputPort, InputPort, MadeStream, Alias, declared_name, may_share, is_declared, stand_before, head_names, invocation_names, graph_names, repeated_in_composite, repeated_in_definition, repeated_definitions, repeated_in_unit, declared_twice}
+use Rattle.language_model.specs.Declarations.{Name, is_same, repeated_after, repeated, Declared, OutputPort, InputPort, MadeStream, Alias, declared_name, may_share, stand_before, graph_names, repeated_in_definition, declared_twice}
+use Rattle.language_model.specs.parts.Declarations.{is_declared, head_names, invocation_names, repeated_in_composite, repeated_definitions}
+use Rattle.language_model.proofs.parts.Declarations.{repeated_in_unit}
 use Rattle.graph_laws.proofs.Flattening.{behind}
 use Rattle.spl_value.proofs.Lists.{append_front, same_name}
 use Rattle.expansion_laws.specs.Standing.{MakesAs}

@@ -13,7 +13,9 @@ use Rattle.spl_tree.specs.Trees.{placed}
 use Rattle.language_model.specs.declared.expansion.ExpansionRefusal.TheVariants as R
 use Rattle.language_model.specs.Composites.{composites, has_no_ports}
 use Rattle.language_model.specs.Declarations.{first_of}
-use Rattle.language_model.specs.Expansion.{Made, Inlined, Opened, Expands, after, operation, with_operation, inlined, opened_in, with_expansion, if_grown, expanded_target, expanded_invocation, expanded_graph, expanded, main_body, expanded_main}
+use Rattle.language_model.specs.Expansion.{Made, Inlined, Opened, Expands, after, operation, inlined, opened_in, expanded_target, expanded_invocation, expanded_graph, expanded, main_body, expanded_main}
+use Rattle.language_model.proofs.parts.Expansion.{with_operation}
+use Rattle.language_model.specs.parts.Expansion.{with_expansion, if_grown}
 use Rattle.language_model.specs.Invoking.{Target, Operator, Body, Nothing, target_of, undeclared, fits_head, is_among, stream_names}
 use Rattle.language_model.specs.Recursion.{HasNoRecursion, calls_among, composite_callers}
 use Rattle.language_model.specs.Scopes.{At}

@@ -7,10 +7,13 @@ use Rattle.std.proofs.lemmas.Option.{same_Some}
 use Rattle.spl_tree.specs.declared.graph.Graph.{Graph}
 use Rattle.spl_tree.specs.declared.unit.Composite.{Composite}
 use Rattle.spl_tree.specs.declared.unit.Definition.{Definition}
-use Rattle.language_model.specs.Composites.{composites, composite_named, has_no_ports, may_be_main, if_main, only_one, portless, behind_first, named_or_only}
+use Rattle.language_model.specs.Composites.{composites, composite_named, has_no_ports, if_main}
+use Rattle.language_model.specs.parts.Composites.{may_be_main}
+use Rattle.language_model.proofs.parts.Composites.{only_one, portless, behind_first, named_or_only}
 use Rattle.language_model.specs.Declarations.{declared_twice}
 use Rattle.language_model.specs.Expansion.{Expanded, Made}
-use Rattle.language_model.specs.Flat.{IsFlat, IsMain, flat_from, graph_of, twice, no_main, recursive, expands}
+use Rattle.language_model.specs.Flat.{IsFlat, IsMain, flat_from, twice, no_main, recursive, expands}
+use Rattle.language_model.proofs.parts.Flat.{graph_of}
 use Rattle.language_model.specs.Recursion.{HasNoRecursion, composite_callers}
 use Rattle.language_model.specs.Scopes.{At, first_from}
 use Rattle.graph_laws.proofs.Flattening.{topo_of, made_of}

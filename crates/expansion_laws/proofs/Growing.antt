@@ -12,8 +12,11 @@ use Rattle.spl_tree.specs.declared.unit.Invocation.{Invocation}
 use Rattle.language_model.specs.declared.expansion.Operation.{Operation}
 use Rattle.language_model.specs.declared.expansion.Source.{Source}
 use Rattle.language_model.specs.Composites.{has_no_ports}
-use Rattle.language_model.specs.Expansion.{Made, Inlined, invocation_name, place_of, names_of_port, port_names, input_sources, own_or_input, taken_in, ports_of}
-use Rattle.language_model.specs.Invoking.{Operator, Body, target_of, fits_head, is_readable, stream_names, input_names}
+use Rattle.language_model.specs.Expansion.{Made, Inlined, invocation_name, place_of, names_of_port, port_names, input_sources, taken_in}
+use Rattle.language_model.proofs.parts.Expansion.{own_or_input}
+use Rattle.language_model.specs.parts.Expansion.{ports_of}
+use Rattle.language_model.specs.Invoking.{Operator, Body, target_of, fits_head, stream_names, input_names}
+use Rattle.language_model.specs.parts.Invoking.{is_readable}
 use Rattle.graph_laws.proofs.Inlining.{Grows}
 use Rattle.expansion_laws.specs.Bodies.{IsBefore}
 

@@ -9,8 +9,10 @@ use Rattle.spl_tree.specs.declared.unit.HeadPort.{HeadPort}
 use Rattle.spl_tree.specs.declared.unit.InputPort.{InputPort}
 use Rattle.spl_tree.specs.declared.unit.Invocation.{Invocation}
 use Rattle.language_model.specs.Declarations.{first_of}
-use Rattle.language_model.specs.Expansion.{Expanded, Made, if_declared}
-use Rattle.language_model.specs.Invoking.{target_of, is_nothing, undeclared, is_readable, is_among, stream_names, fits_head}
+use Rattle.language_model.specs.Expansion.{Expanded, Made}
+use Rattle.language_model.proofs.parts.Expansion.{if_declared}
+use Rattle.language_model.specs.Invoking.{target_of, is_nothing, undeclared, is_among, stream_names, fits_head}
+use Rattle.language_model.specs.parts.Invoking.{is_readable}
 use Rattle.expansion_laws.proofs.Growing.{AreReadable, IsReadable}
 use Rattle.spl_value.proofs.Bools.{and_parts}
 

@@ -18,10 +18,13 @@ use Rattle.language_model.specs.declared.expansion.Operation.{Operation}
 use Rattle.language_model.specs.declared.expansion.Source.{Source}
 use Rattle.language_model.specs.Composites.{composites, has_no_ports, is_empty}
 use Rattle.language_model.specs.Declarations.{declared_twice}
-use Rattle.language_model.specs.Expansion.{Made, Inlined, source, place_of, names_of_port, port_names, input_sources, own_or_input, taken_in}
-use Rattle.language_model.specs.Flat.{graph_of}
-use Rattle.language_model.specs.Invoking.{Operator, Body, target_of, is_readable, is_among, stream_names, input_names}
-use Rattle.language_model.specs.Numbering.{op_of, expansion_of, stream_of, streams_of}
+use Rattle.language_model.specs.Expansion.{Made, Inlined, source, place_of, names_of_port, port_names, input_sources, taken_in}
+use Rattle.language_model.proofs.parts.Expansion.{own_or_input}
+use Rattle.language_model.proofs.parts.Flat.{graph_of}
+use Rattle.language_model.specs.Invoking.{Operator, Body, target_of, is_among, stream_names, input_names}
+use Rattle.language_model.specs.parts.Invoking.{is_readable}
+use Rattle.language_model.specs.Numbering.{stream_of, streams_of}
+use Rattle.language_model.proofs.parts.Numbering.{op_of, expansion_of}
 use Rattle.language_model.specs.Scopes.{At}
 use Rattle.language_model.specs.DollarTargets.{composite_of, invocation_at}
 use Rattle.graph_laws.proofs.Flattening.{topo_of}

@@ -16,9 +16,11 @@ use Rattle.spl_tree.specs.declared.unit.Definition.{Definition}
 use Rattle.spl_tree.specs.declared.unit.Invocation.{Invocation}
 use Rattle.spl_tree.specs.declared.unit.OutputStream.{OutputStream}
 use Rattle.language_model.specs.Expansion.{Made, Inlined, source, place_of}
-use Rattle.language_model.specs.Flat.{graph_of}
+use Rattle.language_model.proofs.parts.Flat.{graph_of}
 use Rattle.language_model.specs.Invoking.{stream_names, is_among}
-use Rattle.language_model.specs.Numbering.{numbers_from, first_stream, Output, outputs_from, graph_outputs, is_site, site_at, operator_at, expansion_at, output_place, operator_or_expansion, stream_of, op_of, expansion_of}
+use Rattle.language_model.specs.Numbering.{numbers_from, first_stream, Output, outputs_from, is_site, site_at, output_place, operator_or_expansion, stream_of}
+use Rattle.language_model.specs.parts.Numbering.{graph_outputs}
+use Rattle.language_model.proofs.parts.Numbering.{operator_at, expansion_at, op_of, expansion_of}
 use Rattle.language_model.specs.Scopes.{At, at_place, first_from}
 use Rattle.graph_laws.proofs.Flattening.{behind, op_there, numbers_length, numbers_within, same_site}
 use Rattle.graph_laws.proofs.Inlining.{Holds}

@@ -10,7 +10,8 @@ use Rattle.spl_value.proofs.Decided.{both_decided, either_decided}
 use Rattle.spl_tree.specs.declared.expression.Placed.{Placed}
 use Rattle.spl_tree.specs.Trees.{placed}
 use Rattle.graph_laws.proofs.OneFlat.{there}
-use Rattle.language_model.specs.Recursion.{Caller, Calls, call_among, calls_among, IsCall, Leads, directly, through, IsBack, IsFirstIn, HasNoRecursion}
+use Rattle.language_model.specs.Recursion.{Caller, Calls, calls_among, IsCall, Leads, directly, through, IsBack, IsFirstIn, HasNoRecursion}
+use Rattle.language_model.proofs.parts.Recursion.{call_among}
 
 -- ---- what is decided
 

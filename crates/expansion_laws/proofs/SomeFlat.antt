@@ -6,7 +6,9 @@ use Rattle.spl_tree.specs.declared.expression.Placed.{Placed}
 use Rattle.spl_tree.specs.declared.unit.Composite.{Composite}
 use Rattle.spl_tree.specs.declared.unit.Definition.{Definition}
 use Rattle.language_model.specs.declared.expansion.ExpansionRefusal.TheVariants as R
-use Rattle.language_model.specs.Composites.{composites, composite_named, has_no_ports, may_be_main, portless, behind_first, only_one, if_main, named_or_only, main_of}
+use Rattle.language_model.specs.Composites.{composites, composite_named, has_no_ports, if_main, main_of}
+use Rattle.language_model.specs.parts.Composites.{may_be_main}
+use Rattle.language_model.proofs.parts.Composites.{portless, behind_first, only_one, named_or_only}
 use Rattle.language_model.specs.Declarations.{declared_twice}
 use Rattle.language_model.specs.Flat.{IsMain, flat_from, twice, no_main, recursive, expands}
 use Rattle.language_model.specs.Recursion.{HasNoRecursion, IsRecursive, in_functions, in_composites, IsNotRecursive, function_callers, composite_callers}

@@ -10,7 +10,9 @@ use Rattle.spl_tree.specs.declared.unit.Composite.{Composite}
 use Rattle.spl_tree.specs.declared.unit.Definition.{Definition}
 use Rattle.spl_tree.specs.declared.unit.Invocation.{Invocation}
 use Rattle.language_model.specs.declared.expansion.Operation.{Operation}
-use Rattle.language_model.specs.Expansion.{Made, Inlined, Opened, site_in, operation, with_operation, inlined, opened_in, with_expansion}
+use Rattle.language_model.specs.Expansion.{Made, Inlined, Opened, operation, inlined, opened_in}
+use Rattle.language_model.proofs.parts.Expansion.{site_in, with_operation}
+use Rattle.language_model.specs.parts.Expansion.{with_expansion}
 use Rattle.language_model.specs.Invoking.{Operator, Body, target_of, fits_head}
 use Rattle.language_model.specs.Scopes.{At}
 use Rattle.graph_laws.proofs.Inlining.{Grows}

@@ -14,9 +14,10 @@ use Rattle.spl_tree.specs.declared.unit.Definition.{Definition}
 use Rattle.spl_tree.specs.declared.unit.Invocation.{Invocation}
 use Rattle.spl_tree.specs.declared.unit.OutputStream.{OutputStream}
 use Rattle.language_model.specs.declared.expansion.Operation.{Operation}
-use Rattle.language_model.specs.Expansion.{Made, Inlined, invocation_name, first_output}
-use Rattle.language_model.specs.Flat.{graph_of}
-use Rattle.language_model.specs.Numbering.{op_of, expansion_of}
+use Rattle.language_model.specs.Expansion.{Made, Inlined, invocation_name}
+use Rattle.language_model.proofs.parts.Expansion.{first_output}
+use Rattle.language_model.proofs.parts.Flat.{graph_of}
+use Rattle.language_model.proofs.parts.Numbering.{op_of, expansion_of}
 use Rattle.language_model.specs.DollarTargets.{composite_of, invocation_at}
 use Rattle.graph_laws.proofs.ExpansionAnswers.{expansion_at, op_at}
 use Rattle.graph_laws.proofs.Flattening.{topo_of}

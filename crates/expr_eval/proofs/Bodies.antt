@@ -9,7 +9,9 @@ use Rattle.language_model.specs.declared.flow.Flow.{Flow}
 use Rattle.language_model.specs.declared.outs.Output.{Output}
 use Rattle.language_model.specs.Functions.{bodies_of, runs}
 use Rattle.language_model.specs.Outcomes.{Outcome, Done, followed, need}
-use Rattle.language_model.specs.Statements.{State, Bodies, Left, scoped, row_acts, returned_by, left_by}
+use Rattle.language_model.specs.Statements.{State, Bodies, Left, scoped, returned_by}
+use Rattle.language_model.specs.parts.Statements.{row_acts}
+use Rattle.language_model.proofs.parts.Statements.{left_by}
 use Rattle.language_model.specs.ValueLaws.{BodyLeavesLaw}
 use Rattle.language_model.specs.WorldFits.{Leaves}
 use Rattle.expr_eval.specs.Running.{BodyIsFit, Leads, LeavesBehind, RanAs, ran_as, state}

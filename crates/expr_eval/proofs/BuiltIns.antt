@@ -14,7 +14,7 @@ use Rattle.language_model.specs.CodeFits as F
 use Rattle.language_model.specs.CodeFits.{ArgumentsFit, BuiltInGives}
 use Rattle.language_model.specs.Evaluation.{World, Calls, code_value}
 use Rattle.language_model.specs.EvaluationLaws.{values_of}
-use Rattle.language_model.specs.BuiltInCalls.{built_in_of}
+use Rattle.language_model.specs.parts.BuiltInCalls.{built_in_of}
 use Rattle.language_model.specs.Outcomes.{Outcome, Done, followed, settled}
 use Rattle.value_operations.specs.Answers.{StopsAs, Answers}
 use Rattle.expr_eval.specs.Fitting.{IsFit}

@@ -15,9 +15,12 @@ use Rattle.language_model.specs.declared.scope.Scope.{Scope}
 use Rattle.language_model.specs.declared.scope.Signature.{Signature}
 use Rattle.language_model.specs.declared.scope.Variable.{Variable}
 use Rattle.language_model.specs.BodyFits.{OfFunction}
-use Rattle.language_model.specs.Functions.{function_env, bodies_of, calls_of}
+use Rattle.language_model.specs.Functions.{function_env, bodies_of}
+use Rattle.language_model.specs.parts.Functions.{calls_of}
 use Rattle.language_model.specs.Outcomes.{Outcome, Done, followed, need, enter}
-use Rattle.language_model.specs.Statements.{State, Left, scoped, row_acts, returned_by, left_by, body_leaves}
+use Rattle.language_model.specs.Statements.{State, Left, scoped, returned_by, body_leaves}
+use Rattle.language_model.specs.parts.Statements.{row_acts}
+use Rattle.language_model.proofs.parts.Statements.{left_by}
 use Rattle.language_model.specs.ValueLaws.{BodyLeavesLaw}
 use Rattle.language_model.specs.WorldFits.{VariablesFit, FunctionFits, ResultFits, Leaves, body_scope}
 use Rattle.value_operations.specs.Answers.{StopsAs, Answers}

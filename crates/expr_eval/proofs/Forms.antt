@@ -12,9 +12,10 @@ use Rattle.spl_tree.specs.declared.code.Marker.{Marker}
 use Rattle.spl_tree.specs.declared.code.Slot.{Slot}
 use Rattle.spl_tree.specs.declared.code.Selector.{Selector}
 use Rattle.spl_tree.specs.declared.code.UnaryCode.{UnaryCode}
-use Rattle.language_model.specs.Evaluation.{World, Calls, map_of, tuple_of, unaries_of, binary, same_marker, code_value}
+use Rattle.language_model.specs.Evaluation.{World, Calls, tuple_of, unaries_of, binary, same_marker, code_value}
+use Rattle.language_model.specs.parts.Evaluation.{map_of}
 use Rattle.language_model.specs.EvaluationLaws.{values_of, pair_values, field_values, takings_value, truth_value, literal_is, name_is, list_is, map_is, tuple_is, select_is, unary_is, binary_is, conditional_is, built_in_is, call_is, is_marker_is, is_not_marker_is}
-use Rattle.language_model.specs.BuiltInCalls.{built_in_of}
+use Rattle.language_model.specs.parts.BuiltInCalls.{built_in_of}
 use Rattle.language_model.specs.Statements.{level_tuple}
 use Rattle.language_model.specs.Outcomes.{Outcome, Done, followed, need, settled, enter}
 use Rattle.value_operations.specs.Answers.{StopsAs, AnswersHeld, ReadsHeld}

@@ -4,7 +4,8 @@ use Rattle.std.proofs.Common.{ap, sym, subst, ◌∙◌}
 use Rattle.spl_value.specs.declared.value.Value.{Value}
 use Rattle.language_model.specs.declared.flow.Flow.{Flow}
 use Rattle.language_model.specs.Outcomes.{Outcome, Done, followed}
-use Rattle.language_model.specs.Statements.{State, Acts, ended, scoped, with_vars}
+use Rattle.language_model.specs.Statements.{State, Acts, scoped, with_vars}
+use Rattle.language_model.proofs.parts.Statements.{ended}
 use Rattle.value_operations.specs.Answers.{StopsAs}
 use Rattle.value_operations.specs.declared.stop.Stop.{Stop}
 use Rattle.value_operations.specs.declared.stop.Stop.TheVariants as S

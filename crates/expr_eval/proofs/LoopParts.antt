@@ -12,7 +12,8 @@ use Rattle.language_model.specs.declared.flow.Flow.{Flow}
 use Rattle.language_model.specs.declared.flow.Flow.TheVariants as F
 use Rattle.language_model.specs.Functions.{bodies_of}
 use Rattle.language_model.specs.Outcomes.{Outcome, Done, Faulted, followed, enter}
-use Rattle.language_model.specs.Statements.{State, Acts, Bodies, truth_in, statement_acts, row_acts, scoped, declared, then_rest, then_again, turns_while, turns_over}
+use Rattle.language_model.specs.Statements.{State, Acts, Bodies, truth_in, scoped, declared, then_rest, then_again, turns_while, turns_over}
+use Rattle.language_model.specs.parts.Statements.{statement_acts, row_acts}
 use Rattle.language_model.specs.StatementLaws.{arms_act}
 use Rattle.value_operations.specs.Answers.{StopsAs}
 use Rattle.expr_eval.specs.Running.{EndsRow, EndsLoop, Leads}

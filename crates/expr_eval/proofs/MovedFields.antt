@@ -16,7 +16,7 @@ use Rattle.language_model.specs.declared.env.Env.{Env}
 use Rattle.language_model.specs.Outcomes.{Done, followed, need}
 use Rattle.language_model.specs.Evaluation.{World, code_value, tuple_of, world_of}
 use Rattle.language_model.specs.EvaluationLaws.{field_values, name_is}
-use Rattle.language_model.specs.Functions.{calls_of}
+use Rattle.language_model.specs.parts.Functions.{calls_of}
 use Rattle.language_model.specs.ValueLaws.{NeverStuckLaw}
 use Rattle.language_model.specs.WorldFits.{ComesTo}
 use Rattle.expr_eval.specs.Fitting.{IsFit}

@@ -11,7 +11,8 @@ use Rattle.language_model.specs.declared.scope.Scope.{Scope}
 use Rattle.language_model.specs.declared.scope.Variable.{Variable}
 use Rattle.language_model.specs.BodyFits.{with_variable}
 use Rattle.language_model.specs.Outcomes.{Outcome, Done, Faulted, Stuck, followed, enter}
-use Rattle.language_model.specs.Statements.{State, declared, ended}
+use Rattle.language_model.specs.Statements.{State, declared}
+use Rattle.language_model.proofs.parts.Statements.{ended}
 use Rattle.language_model.specs.WorldFits.{VariablesFit, LeadsTo}
 use Rattle.language_model.proofs.Variables.{kept}
 

@@ -27,7 +27,8 @@ use Rattle.language_model.specs.CodeFits as F
 use Rattle.language_model.specs.CodeFits.{CodeFits, StepsLead}
 use Rattle.language_model.specs.Functions.{bodies_of}
 use Rattle.language_model.specs.Outcomes.{Outcome, Done, followed, need, settled}
-use Rattle.language_model.specs.Statements.{State, Bodies, value_in, step_value, step_values, steps_taken, change_value, change_values, changed_at, change_acts}
+use Rattle.language_model.specs.Statements.{State, Bodies, value_in, step_value, steps_taken, change_value, change_values}
+use Rattle.language_model.specs.parts.Statements.{step_values, changed_at, change_acts}
 use Rattle.language_model.specs.ValueLaws.{NeverStuckLaw}
 use Rattle.value_operations.specs.Answers.{StopsAs, Answers}
 use Rattle.value_operations.specs.Changing as C

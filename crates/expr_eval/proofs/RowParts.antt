@@ -21,7 +21,8 @@ use Rattle.language_model.specs.BodyFits.{Purpose, StatementFits, RowFits, ArmsF
 use Rattle.language_model.specs.CodeFits.{CodeFits}
 use Rattle.language_model.specs.Functions.{bodies_of}
 use Rattle.language_model.specs.Outcomes.{Done, enter}
-use Rattle.language_model.specs.Statements.{State, declared, scoped, statement_acts, row_acts}
+use Rattle.language_model.specs.Statements.{State, declared, scoped}
+use Rattle.language_model.specs.parts.Statements.{statement_acts, row_acts}
 use Rattle.language_model.specs.StatementLaws.{block_is}
 use Rattle.language_model.specs.ValueLaws.{StatementLeadsLaw}
 use Rattle.language_model.specs.WorldFits.{FunctionsFit, Fits, VariablesFit, LeadsTo}

@@ -9,7 +9,8 @@ use Rattle.spl_tree.specs.declared.code.Code.{Code}
 use Rattle.spl_tree.specs.declared.code.Slot.{Slot}
 use Rattle.spl_tree.specs.declared.code.Selector.{Selector}
 use Rattle.language_model.specs.Outcomes.{Outcome, Done, followed}
-use Rattle.language_model.specs.Evaluation.{World, Calls, code_value, taken, map_of}
+use Rattle.language_model.specs.Evaluation.{World, Calls, code_value, taken}
+use Rattle.language_model.specs.parts.Evaluation.{map_of}
 use Rattle.language_model.specs.EvaluationLaws.{values_of, pair_values, field_values, taking_meaning, takings_value}
 use Rattle.value_operations.specs.Answers.{StopsAs}
 use Rattle.value_operations.specs.declared.stop.Stop.{Stop}

@@ -16,7 +16,8 @@ use Rattle.language_model.specs.declared.flow.Flow.TheVariants as F
 use Rattle.language_model.specs.Evaluation.{world_of}
 use Rattle.language_model.specs.EvaluationLaws.{values_of}
 use Rattle.language_model.specs.Outcomes.{Outcome, Done, followed, need, enter}
-use Rattle.language_model.specs.Statements.{State, Bodies, calls_by, value_in, declared, scoped, submitted, turns_while, change_acts, level_tuple, statement_acts, row_acts}
+use Rattle.language_model.specs.Statements.{State, Bodies, calls_by, value_in, declared, scoped, submitted, turns_while, level_tuple}
+use Rattle.language_model.specs.parts.Statements.{change_acts, statement_acts, row_acts}
 use Rattle.language_model.specs.StatementLaws.{arms_act, declare_is, change_is, evaluate_is, call_is, if_is, while_is, return_is, submit_is, submit_window_is}
 use Rattle.value_operations.specs.Answers.{StopsAs}
 use Rattle.expr_eval.specs.Running.{Leads}

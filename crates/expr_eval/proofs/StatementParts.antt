@@ -30,7 +30,7 @@ use Rattle.language_model.specs.BodyFits.{Purpose, StatementFits, RowFits, GoesO
 use Rattle.language_model.specs.CodeFits.{CodeFits, ArgumentsFit}
 use Rattle.language_model.specs.Evaluation.{code_value, world_of}
 use Rattle.language_model.specs.EvaluationLaws.{values_of}
-use Rattle.language_model.specs.Functions.{calls_of}
+use Rattle.language_model.specs.parts.Functions.{calls_of}
 use Rattle.language_model.specs.Outcomes.{Done}
 use Rattle.language_model.specs.Statements.{level_elements, level_tuple}
 use Rattle.language_model.specs.ValueLaws.{NeverStuckLaw}

@@ -17,7 +17,7 @@ use Rattle.language_model.specs.declared.scope.Scope.{Scope}
 use Rattle.language_model.specs.CodeFits as F
 use Rattle.language_model.specs.CodeFits.{CodeFits, StepsLead}
 use Rattle.language_model.specs.Evaluation.{code_value, world_of, taken}
-use Rattle.language_model.specs.Functions.{calls_of}
+use Rattle.language_model.specs.parts.Functions.{calls_of}
 use Rattle.language_model.specs.EvaluationLaws.{taking_meaning}
 use Rattle.language_model.specs.Outcomes.{Done}
 use Rattle.language_model.specs.ValueLaws.{NeverStuckLaw}

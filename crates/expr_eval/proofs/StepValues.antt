@@ -17,9 +17,11 @@ use Rattle.language_model.specs.Changes.{step_of}
 use Rattle.language_model.specs.CodeFits.{StepsLead}
 use Rattle.language_model.specs.Evaluation.{code_value, world_of, taken}
 use Rattle.language_model.specs.EvaluationLaws.{taking_meaning}
-use Rattle.language_model.specs.Functions.{bodies_of, calls_of}
+use Rattle.language_model.specs.Functions.{bodies_of}
+use Rattle.language_model.specs.parts.Functions.{calls_of}
 use Rattle.language_model.specs.Outcomes.{Outcome, Done, followed, settled}
-use Rattle.language_model.specs.Statements.{State, Bodies, calls_by, value_in, step_value, step_values, steps_taken}
+use Rattle.language_model.specs.Statements.{State, Bodies, calls_by, value_in, step_value, steps_taken}
+use Rattle.language_model.specs.parts.Statements.{step_values}
 use Rattle.language_model.specs.ValueLaws.{NeverStuckLaw}
 use Rattle.value_operations.specs.Answers.{StopsAs}
 use Rattle.value_operations.specs.declared.stop.Stop.{Stop}

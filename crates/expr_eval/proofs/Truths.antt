@@ -23,8 +23,9 @@ use Rattle.language_model.specs.CodeFits as F
 use Rattle.language_model.specs.CodeFits.{UnaryGives, UnariesGive, BinaryGives}
 use Rattle.language_model.specs.Evaluation.{World, Calls, code_value, binary, unaries_of, world_of}
 use Rattle.language_model.specs.EvaluationLaws.{truth_value, binary_is, unary_is}
-use Rattle.language_model.specs.Functions.{calls_of}
-use Rattle.language_model.specs.Operators.{boolean, binary_of, level_truth, level_unary, truth_of, unary_of}
+use Rattle.language_model.specs.parts.Functions.{calls_of}
+use Rattle.language_model.specs.Operators.{binary_of, level_truth, level_unary}
+use Rattle.language_model.specs.parts.Operators.{boolean, truth_of, unary_of}
 use Rattle.language_model.specs.Outcomes.{Outcome, Done, Faulted, Stuck, followed, need, settled}
 use Rattle.language_model.specs.ValueLaws.{NeverStuckLaw}
 use Rattle.language_model.specs.WorldFits.{Fits}

@@ -29,7 +29,7 @@ use Rattle.language_model.specs.declared.scope.Scope.{Scope}
 use Rattle.language_model.specs.CodeFits as F
 use Rattle.language_model.specs.CodeFits.{CodeFits, ArgumentsFit, StepsLead, OneEach}
 use Rattle.language_model.specs.Evaluation.{Calls, World, code_value, world_of, taken, field_at, tuple_from, tuple_of}
-use Rattle.language_model.specs.Functions.{calls_of}
+use Rattle.language_model.specs.parts.Functions.{calls_of}
 use Rattle.language_model.specs.EvaluationLaws.{values_of, field_values, taking_meaning, takings_value, literal_is, select_is, tuple_is}
 use Rattle.language_model.specs.Statements.{level_tuple}
 use Rattle.language_model.specs.Outcomes.{Done, followed, need}

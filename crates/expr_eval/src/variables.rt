@@ -5,7 +5,7 @@ ghost use Rattle.spl_tree.specs.declared.code.Selector.{Selector};
 ghost use Rattle.spl_value.specs.declared.value.Value.{Value};
 ghost use Rattle.language_model.specs.declared.outs.Output.{Output};
 ghost use Rattle.language_model.specs.Outcomes.{Outcome, followed};
-ghost use Rattle.language_model.specs.Statements.{changed_at};
+ghost use Rattle.language_model.specs.parts.Statements.{changed_at};
 ghost use Rattle.value_operations.specs.Answers.{Answers};
 ghost use Rattle.value_operations.specs.steps.Places.{CanChangeAt};
 ghost use Rattle.expr_eval.specs.Running.{LeadsNext, state};

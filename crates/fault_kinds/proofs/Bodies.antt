@@ -18,14 +18,16 @@ use Rattle.language_model.specs.declared.env.Env.{Env}
 use Rattle.language_model.specs.declared.outs.Output.{Output}
 use Rattle.language_model.specs.Evaluation.{world_of}
 use Rattle.language_model.specs.Functions.{value}
-use Rattle.language_model.specs.Operators.{truth_of}
+use Rattle.language_model.specs.parts.Operators.{truth_of}
 use Rattle.language_model.specs.Statements.{level_tuple}
 use Rattle.stream_model.specs.Stream.{Event}
 use Rattle.stream_model.specs.Operators.{Operator}
 use Rattle.stream_model.specs.PortEvents.{items_of}
 use Rattle.stream_model.specs.Bodies.{Makes, at_tuple, by_item, holds, made_where, most_turns, passes, tuple_by, values_at}
-use Rattle.stream_model.specs.Customs.{handler, item_leaves, left_by, marker_env, state, tuple_env}
-use Rattle.stream_model.specs.Aggregates.{aggregate_body, argument, arguments, fired_give}
+use Rattle.stream_model.specs.Customs.{handler, item_leaves, left_by, marker_env, state}
+use Rattle.stream_model.specs.parts.Customs.{tuple_env}
+use Rattle.stream_model.specs.Aggregates.{aggregate_body, arguments, fired_give}
+use Rattle.stream_model.specs.parts.Aggregates.{argument}
 use Rattle.stream_model.specs.Joins.{pairs_at, pairs_give}
 use Rattle.stream_model.specs.React.{makes_by}
 use Rattle.fault_kinds.proofs.Outcomes.{Own, own_followed, own_need, own_either}

@@ -25,9 +25,12 @@ use Rattle.spl_tree.specs.declared.code.Selector.{Selector}
 use Rattle.spl_tree.specs.declared.code.Selector.TheVariants as K
 use Rattle.spl_tree.specs.declared.code.UnaryCode.{UnaryCode}
 use Rattle.spl_tree.specs.declared.code.UnaryCode.TheVariants as U
-use Rattle.language_model.specs.BuiltInCalls.{level_call, built_in_of, level_place_call}
+use Rattle.language_model.specs.BuiltInCalls.{level_call, level_place_call}
+use Rattle.language_model.specs.parts.BuiltInCalls.{built_in_of}
 use Rattle.language_model.specs.Changes.{passed_on, step_of, level_changed, changed, change_of}
-use Rattle.language_model.specs.Operators.{divided, on_integers, level_integers, boolean, in_order, ordered, level_join, level_in_list, level_in_map, binary_of, level_unary, unary_of, found, given, level_member, element_at, level_element, level_at_key}
+use Rattle.language_model.specs.Operators.{divided, on_integers, level_integers, in_order, level_join, level_in_list, level_in_map, binary_of, level_unary, level_member, element_at, level_element, level_at_key}
+use Rattle.language_model.specs.parts.Operators.{boolean, unary_of, found}
+use Rattle.language_model.proofs.parts.Operators.{ordered, given}
 use Rattle.fault_kinds.specs.Kinds.{is_evaluation_kind}
 use Rattle.fault_kinds.proofs.Outcomes.{OwnCall}
 

@@ -12,8 +12,9 @@ use Rattle.spl_tree.specs.declared.code.Selector.TheVariants as K
 use Rattle.spl_tree.specs.declared.code.UnaryCode.{UnaryCode}
 use Rattle.language_model.specs.Evaluation.{World, Meaning, Calls, tuple_of, unaries_of, truth, binary, code_value}
 use Rattle.language_model.specs.EvaluationLaws.{values_of, pair_values, field_values, takings_value, truth_value, literal_is, name_is, list_is, map_is, tuple_is, select_is, unary_is, binary_is, conditional_is, built_in_is, call_is, is_marker_is, is_not_marker_is}
-use Rattle.language_model.specs.BuiltInCalls.{built_in_of}
-use Rattle.language_model.specs.Operators.{binary_of, unary_of, level_member, level_element, level_at_key, truth_of}
+use Rattle.language_model.specs.parts.BuiltInCalls.{built_in_of}
+use Rattle.language_model.specs.Operators.{binary_of, level_member, level_element, level_at_key}
+use Rattle.language_model.specs.parts.Operators.{unary_of, truth_of}
 use Rattle.language_model.specs.Outcomes.{Outcome, followed, settled}
 use Rattle.language_model.proofs.CodeInduction.{CodeSteps, OfPair, OfField, OfTaking, code_ind}
 use Rattle.fault_kinds.proofs.Outcomes.{Own, own_followed, own_need, own_enter, own_either, own_by, own_settled}

@@ -7,8 +7,10 @@ use Rattle.spl_tree.specs.declared.body.Statement.{Statement}
 use Rattle.spl_tree.specs.declared.code.Code.{Code}
 use Rattle.language_model.specs.declared.env.Env.{Env}
 use Rattle.language_model.specs.Evaluation.{World}
-use Rattle.language_model.specs.Functions.{bodies_of, calls_of, function_env, runs, value}
-use Rattle.language_model.specs.Statements.{body_leaves, statement_acts}
+use Rattle.language_model.specs.Functions.{bodies_of, function_env, runs, value}
+use Rattle.language_model.specs.parts.Functions.{calls_of}
+use Rattle.language_model.specs.Statements.{body_leaves}
+use Rattle.language_model.specs.parts.Statements.{statement_acts}
 use Rattle.fault_kinds.specs.EvaluationKinds.{ValueKindsLaw, StatementKindsLaw, FunctionKindsLaw, RunsKindsLaw}
 use Rattle.fault_kinds.proofs.Outcomes.{Own, own_followed, own_need, own_law}
 use Rattle.fault_kinds.proofs.Codes.{own_code}

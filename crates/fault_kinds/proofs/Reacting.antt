@@ -9,7 +9,8 @@ use Rattle.spl_value.specs.declared.item.Item.TheVariants as I
 use Rattle.language_model.specs.declared.outs.Output.{Output}
 use Rattle.language_model.specs.Outcomes.{Done, Faulted, Stuck}
 use Rattle.stream_model.specs.Stream.{Event, closes, is_fault}
-use Rattle.stream_model.specs.Operators.{Operator, ports, port_at}
+use Rattle.stream_model.specs.Operators.{Operator, ports}
+use Rattle.stream_model.specs.parts.Operators.{port_at}
 use Rattle.stream_model.specs.PortEvents.{is_last, is_waiting, port_events}
 use Rattle.stream_model.specs.Bodies.{Makes, on_each, output}
 use Rattle.stream_model.specs.React.{Reaction, Gives, Faults, answer, answered, body, ended, ended_by, makes_by, own_fault, react}

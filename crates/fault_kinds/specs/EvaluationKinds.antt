@@ -9,7 +9,8 @@ use Rattle.language_model.specs.declared.env.Env.{Env}
 use Rattle.language_model.specs.Evaluation.{World}
 use Rattle.language_model.specs.Functions.{bodies_of, value, runs}
 use Rattle.language_model.specs.Outcomes.{Outcome, Faulted}
-use Rattle.language_model.specs.Statements.{State, statement_acts}
+use Rattle.language_model.specs.Statements.{State}
+use Rattle.language_model.specs.parts.Statements.{statement_acts}
 use Rattle.fault_kinds.specs.Kinds.{is_evaluation_kind}
 
 -- where it is a fault, that is one of evaluation

@@ -4,7 +4,8 @@ use Rattle.std.specs.List.{AllByRecursion, position_or_len}
 use Rattle.std.proofs.lemmas.Bool.{eqb-true, lt-ltb, ltb-true}
 use Rattle.spl_value.specs.declared.item.Item.{Item}
 use Rattle.stream_model.specs.Stream.{Event, came}
-use Rattle.stream_model.specs.Meaning.{Lists, arrive, events_at, lists_at, taking, with_list}
+use Rattle.stream_model.specs.Meaning.{Lists, arrive, events_at, lists_at, taking}
+use Rattle.stream_model.proofs.parts.Meaning.{with_list}
 
 module _ (P : Event → Type 0) where
   -- it holds of each event with an item of the list on the input

@@ -10,7 +10,8 @@ use Rattle.spl_value.specs.declared.item.Item.{Item}
 use Rattle.spl_value.specs.declared.item.Item.TheVariants as I
 use Rattle.language_model.specs.declared.outs.Output.{Output}
 use Rattle.stream_model.specs.Bodies.{on_each, output}
-use Rattle.stream_model.specs.Ends.{end_from, fault_of, operator_fault, stream_fault}
+use Rattle.stream_model.specs.Ends.{end_from, fault_of, stream_fault}
+use Rattle.stream_model.specs.parts.Ends.{operator_fault}
 use Rattle.stream_model.specs.Fitting.{EventsFit, IsFitting}
 use Rattle.stream_model.specs.Operators.{Operator}
 use Rattle.stream_model.specs.PathLaws.{fault_by}

@@ -13,7 +13,8 @@ use Rattle.language_model.specs.StreamTypes.{Attributes}
 use Rattle.stream_model.specs.CheckedMeaning.{graph_of, schema_at}
 use Rattle.stream_model.specs.Fitting.{EventFits, EventsFit, IsFitting}
 use Rattle.stream_model.specs.Meaning.{Graph, Lists, Entries, events_of, made_by, makes, streams_of}
-use Rattle.stream_model.specs.Operators.{Operator, connections, input_attributes, output_attributes, port_at, ports}
+use Rattle.stream_model.specs.Operators.{Operator, connections, input_attributes, output_attributes, ports}
+use Rattle.stream_model.specs.parts.Operators.{port_at}
 use Rattle.stream_model.specs.Replies.{ItemHas, given_attributes}
 use Rattle.stream_model.specs.Stages.{out}
 use Rattle.stream_model.specs.Stream.{Event, TuplesFit}

@@ -3,7 +3,8 @@ use Rattle.std.proofs.Common.{ap, arith, refl, ◌∙◌}
 use Rattle.std.specs.Option.{option_map}
 use Rattle.std.specs.Prelude.{List, Some, [], length, slice_get, suc, zero, ℕ, ◌+◌, ◌∷◌, ◌≡◌}
 use Rattle.language_model.specs.Expansion.{Inlined, Made}
-use Rattle.language_model.specs.Numbering.{expansion_of, expansions_from, op_of, ops_from}
+use Rattle.language_model.specs.Numbering.{expansions_from, ops_from}
+use Rattle.language_model.proofs.parts.Numbering.{expansion_of, op_of}
 use Rattle.language_model.specs.declared.expansion.Operation.{Operation}
 
 pub expansion_at : (made : Made) (n : ℕ) (es : List Inlined) (m : ℕ)

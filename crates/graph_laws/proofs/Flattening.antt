@@ -15,9 +15,11 @@ use Rattle.spl_tree.specs.declared.unit.Definition.{Definition}
 use Rattle.language_model.specs.Declarations.{first_of}
 use Rattle.language_model.specs.declared.expansion.Operation.{Operation}
 use Rattle.language_model.specs.Expansion.{Made, after, expanded_main, place_of}
-use Rattle.language_model.specs.Flat.{flat_from, graph_of, ordered, if_all_taken, with_own_files, files_had, if_none_had}
+use Rattle.language_model.specs.Flat.{flat_from, ordered, with_own_files}
+use Rattle.language_model.proofs.parts.Flat.{graph_of, if_all_taken, files_had, if_none_had}
 use Rattle.language_model.specs.FlatLaws.{IsMadeAs, MakerLaw}
-use Rattle.language_model.specs.Numbering.{numbers_from, first_stream, op_of, ops_from, streams_from, is_site}
+use Rattle.language_model.specs.Numbering.{numbers_from, first_stream, ops_from, streams_from, is_site}
+use Rattle.language_model.proofs.parts.Numbering.{op_of}
 use Rattle.language_model.specs.Scopes.{At, at_place, first_from}
 use Rattle.language_model.specs.Taking.{taken, first_untaken}
 use Rattle.language_model.proofs.Options.{mapped}

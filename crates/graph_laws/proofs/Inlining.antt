@@ -18,12 +18,16 @@ use Rattle.language_model.specs.declared.expansion.ExpansionRefusal.TheVariants 
 use Rattle.language_model.specs.Composites.{composites, composite_named}
 use Rattle.language_model.specs.Declarations.{first_of}
 use Rattle.language_model.specs.declared.expansion.Operation.{Operation}
-use Rattle.language_model.specs.Expansion.{Made, Expanded, Inlined, Opened, Expands, after, operation, with_operation, if_within, is_within, inlined, opened_in, with_expansion, if_grown, expanded_target, if_declared, expanded_invocation, expanded_graph, expanded, main_body, expanded_main, ports_of}
-use Rattle.language_model.specs.Flat.{graph_of}
+use Rattle.language_model.specs.Expansion.{Made, Expanded, Inlined, Opened, Expands, after, operation, if_within, inlined, opened_in, expanded_target, expanded_invocation, expanded_graph, expanded, main_body, expanded_main}
+use Rattle.language_model.proofs.parts.Expansion.{with_operation, if_declared}
+use Rattle.language_model.specs.parts.Expansion.{is_within, with_expansion, if_grown, ports_of}
+use Rattle.language_model.proofs.parts.Flat.{graph_of}
 use Rattle.language_model.specs.FlatLaws.{IsInvoked, OperatorLaw}
 use Rattle.language_model.specs.Kinds.{kind_named}
-use Rattle.language_model.specs.Invoking.{Target, Operator, Body, Nothing, target_of, body_or_operator, operator_or_nothing, undeclared, fits_head}
-use Rattle.language_model.specs.Numbering.{op_of, ops_from, expansion_of, expansions_from}
+use Rattle.language_model.specs.Invoking.{Target, Operator, Body, Nothing, target_of, undeclared, fits_head}
+use Rattle.language_model.proofs.parts.Invoking.{body_or_operator, operator_or_nothing}
+use Rattle.language_model.specs.Numbering.{ops_from, expansions_from}
+use Rattle.language_model.proofs.parts.Numbering.{op_of, expansion_of}
 use Rattle.language_model.specs.Scopes.{At}
 use Rattle.graph_laws.proofs.Flattening.{topo_of, made_of, numbers_length}
 use Rattle.language_model.proofs.Options.{mapped}

@@ -16,11 +16,14 @@ use Rattle.language_model.specs.declared.expansion.ExpansionRefusal.TheVariants 
 use Rattle.language_model.specs.declared.expansion.Operation.{Operation}
 use Rattle.language_model.specs.Composites.{composites}
 use Rattle.language_model.specs.Declarations.{first_of}
-use Rattle.language_model.specs.Expansion.{Made, Inlined, Opened, Expands, after, site_in, operation, with_operation, inlined, opened_in, with_expansion, if_grown, expanded_target, expanded_invocation, expanded_graph, expanded, main_body, expanded_main}
-use Rattle.language_model.specs.Flat.{graph_of}
+use Rattle.language_model.specs.Expansion.{Made, Inlined, Opened, Expands, after, operation, inlined, opened_in, expanded_target, expanded_invocation, expanded_graph, expanded, main_body, expanded_main}
+use Rattle.language_model.proofs.parts.Expansion.{site_in, with_operation}
+use Rattle.language_model.specs.parts.Expansion.{with_expansion, if_grown}
+use Rattle.language_model.proofs.parts.Flat.{graph_of}
 use Rattle.language_model.specs.FlatLaws.{MakesNone, of_none, one_more, IsKept, as_operator, as_body, without_operators, IsWhole, WholeLaw}
 use Rattle.language_model.specs.Invoking.{Target, Operator, Body, Nothing, target_of, undeclared, fits_head}
-use Rattle.language_model.specs.Numbering.{op_of, expansion_of, expansions_from}
+use Rattle.language_model.specs.Numbering.{expansions_from}
+use Rattle.language_model.proofs.parts.Numbering.{op_of, expansion_of}
 use Rattle.language_model.specs.Recursion.{HasNoRecursion, calls_among, composite_callers}
 use Rattle.language_model.specs.Scopes.{At}
 use Rattle.language_model.specs.DollarTargets.{composite_of, invocation_at}

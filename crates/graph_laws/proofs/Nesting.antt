@@ -13,7 +13,9 @@ use Rattle.spl_tree.specs.declared.unit.Invocation.{Invocation}
 use Rattle.spl_tree.specs.Trees.{placed}
 use Rattle.language_model.specs.Composites.{composites, composite_named}
 use Rattle.language_model.specs.Invoking.{Body, target_of}
-use Rattle.language_model.specs.Recursion.{Caller, Calls, IsCall, Leads, directly, through, IsAcyclic, HasNoRecursion, call_among, calls_among, composite_caller, composite_callers}
+use Rattle.language_model.specs.Recursion.{Caller, Calls, IsCall, Leads, directly, through, HasNoRecursion, calls_among, composite_callers}
+use Rattle.language_model.specs.parts.Recursion.{IsAcyclic, composite_caller}
+use Rattle.language_model.proofs.parts.Recursion.{call_among}
 use Rattle.language_model.specs.Scopes.{At, at_place, first_from}
 use Rattle.graph_laws.specs.steps.Paths.{IsPath}
 use Rattle.graph_laws.proofs.Inlining.{named}

@@ -10,7 +10,7 @@ use Rattle.std.proofs.lemmas.Option.{same_Some, slice_get_within}
 use Rattle.spl_tree.specs.declared.graph.Op.{Op}
 use Rattle.spl_tree.specs.declared.graph.Stream.{Stream}
 use Rattle.language_model.specs.Expansion.{Made}
-use Rattle.language_model.specs.Flat.{graph_of}
+use Rattle.language_model.proofs.parts.Flat.{graph_of}
 use Rattle.language_model.specs.FlatLaws.{IsTopological, TopoLaw, ConnectedLaw}
 use Rattle.language_model.specs.Numbering.{ops_from, streams_from}
 use Rattle.language_model.specs.Taking.{is_taken, is_ready, next_from, taken_on, taken, first_untaken}

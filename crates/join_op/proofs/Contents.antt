@@ -2,7 +2,8 @@
 use Rattle.std.proofs.Common.{◌≡◌, false, List, [], ◌∷◌, length, refl, sym, ap, ◌∙◌, true≢false, arith}
 use Rattle.spl_value.specs.declared.value.Value.{Value}
 use Rattle.language_model.specs.declared.checked.WindowRule.{WindowRule}
-use Rattle.stream_model.specs.Windows.{WindowEvent, content, has_come, held, relevant, tuples_with}
+use Rattle.stream_model.specs.Windows.{WindowEvent, content, has_come, held, tuples_with}
+use Rattle.stream_model.specs.parts.Windows.{relevant}
 use Rattle.window_policy.proofs.Marks.{held-nothing}
 use Rattle.window_policy.proofs.Windows.{came_where_relevant}
 

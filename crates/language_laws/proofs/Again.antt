@@ -22,7 +22,9 @@ use Rattle.spl_tree.proofs.Induction.{ExprSteps, OfExpr, OfEntry, OfField, expr_
 use Rattle.language_model.specs.declared.scope.Scope.{Scope}
 use Rattle.language_model.specs.declared.scope.Typed.{Typed}
 use Rattle.language_model.specs.Scopes.{at_place, first_from, attribute_of}
-use Rattle.language_model.specs.Typing.{Wanted, Found, after, mismatch, as_wanted, typed, Part, part_typed, Anything, level_element, level_pair, level_schema, elements_typed, list_typed, wants_list, entries_typed, map_typed, wants_map, are_distinct, gives_each, field_typed, fields_typed, own_fields, tuple_typed, wants_tuple, conditional_typed, level_typed}
+use Rattle.language_model.specs.Typing.{Wanted, Found, after, mismatch, as_wanted, typed, Part, part_typed, Anything, level_element, level_pair, level_schema, elements_typed, list_typed, entries_typed, map_typed, are_distinct, gives_each, fields_typed, own_fields, tuple_typed, conditional_typed, level_typed}
+use Rattle.language_model.specs.parts.Typing.{wants_list, wants_map, wants_tuple}
+use Rattle.language_model.proofs.parts.Typing.{field_typed}
 use Rattle.language_model.specs.TypingLaws.{parted, parts, entry_parts, field_parts, step_parts, part}
 use Rattle.language_model.proofs.FoundAnswers.{after_gives}
 use Rattle.language_model.proofs.TypingLaws as L

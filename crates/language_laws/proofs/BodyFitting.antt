@@ -25,7 +25,9 @@ use Rattle.language_model.specs.declared.scope.Scope.{Scope}
 use Rattle.language_model.specs.BodyFits as G
 use Rattle.language_model.specs.BodyFits.{Purpose, OfFunction, OfHandler, with_variable, GoesOver, StatementFits, RowFits, ArmsFit}
 use Rattle.language_model.specs.BodyLaws.{BodyFitLaw}
-use Rattle.language_model.specs.BodyTyping.{Setting, alone, arms_typing, assigned, body_typing, condition_typing, declaration_typing, first_value, for_typing, is_window, level_over, other_typing, over_typing, part_stated, return_typing, row_typing, stated, staying, submit_typing, submitted, submitted_on, submitted_to, variable, way_out}
+use Rattle.language_model.specs.BodyTyping.{Setting, alone, arms_typing, body_typing, condition_typing, first_value, is_window, level_over, return_typing, row_typing, staying, submit_typing, submitted, variable}
+use Rattle.language_model.specs.parts.BodyTyping.{assigned, declaration_typing, for_typing, other_typing, over_typing, part_stated, stated}
+use Rattle.language_model.proofs.parts.BodyTyping.{submitted_on, submitted_to, way_out}
 use Rattle.language_model.specs.BodyTypingLaws.{row_stated, arms_stated, other_stated}
 use Rattle.language_model.proofs.BodyTypingLaws.{kind_stated, block_stated, declare_stated, assign_stated, call_stated, if_stated, while_stated, for_stated, break_stated, continue_stated, return_stated, submit_stated}
 use Rattle.language_model.specs.CodeFits as F

@@ -11,7 +11,8 @@ use Rattle.language_model.specs.declared.scope.Scope.{Scope}
 use Rattle.language_model.specs.BodyFits as G
 use Rattle.language_model.specs.BodyFits.{Purpose, OfFunction, OfHandler, RowReturns, Returns, ArmsReturn}
 use Rattle.language_model.specs.BodyLaws.{BodyReturnsLaw}
-use Rattle.language_model.specs.BodyTyping.{Setting, alone, arms_typing, body_typing, condition_typing, other_typing, part_stated, return_typing, returns, row_typing, stated, staying}
+use Rattle.language_model.specs.BodyTyping.{Setting, alone, arms_typing, body_typing, condition_typing, return_typing, returns, row_typing, staying}
+use Rattle.language_model.specs.parts.BodyTyping.{other_typing, part_stated, stated}
 use Rattle.language_model.specs.BodyTypingLaws.{row_stated, arms_stated, other_stated, kind_returns, all_return}
 use Rattle.language_model.proofs.BodyTypingLaws.{kind_stated, block_stated, if_stated, return_stated, arms_return, block_returns, if_returns, declare_returns, assign_returns, call_returns, while_returns, for_returns, break_returns, continue_returns, submit_returns}
 use Rattle.language_model.specs.Typing.{Found, after, typing}

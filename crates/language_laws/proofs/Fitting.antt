@@ -53,8 +53,12 @@ use Rattle.language_model.specs.declared.scope.Signature.{Signature}
 use Rattle.language_model.specs.declared.scope.Typed.{Typed}
 use Rattle.language_model.specs.declared.scope.Variable.{Variable}
 use Rattle.language_model.specs.Readings.{asks_punct, name_of, named_marker}
-use Rattle.language_model.specs.Scopes.{At, Meant, OfVariable, OfAttribute, OfPort, Nothing, PortAttribute, meant, variable_meant, variable_of, attributes_of, port_of, attribute_of, function_of, unresolved_of, dollar_of}
-use Rattle.language_model.specs.Typing.{Wanted, Found, after, mismatch, typed, as_wanted, number_typed, same_types, Part, part_typed, meant_typed, dollar_typed, Wants, Anything, This, Another, wants_list, wants_map, wants_tuple, elements_typed, list_typed, entries_typed, map_typed, are_distinct, gives_each, field_typed, fields_typed, own_fields, tuple_typed, level_index, member_typed, level_step, steps_typed, selected, select_typed, port_attribute, of_port, of_base, level_prefix, prefix_typed, prefixes_at, prefixes_typed, unary_typed, integer_operator, order_operator, on_integers, ordering_of, or_else, level_operator, operands_typed, level_in, binary_typed, marker_asked, binary_or_marker, branch_wanted, conditional_typed, arguments_typed, value_given, function_typed, call_of, int32, OnFirst, level_first, first_typed, argument_count, fixed_typed, no_value, arguments_of, built_in_typed, call_typed, level_typed, typing}
+use Rattle.language_model.specs.Scopes.{At, Meant, OfVariable, OfAttribute, OfPort, Nothing, PortAttribute, meant, variable_of, attributes_of, attribute_of, function_of, unresolved_of, dollar_of}
+use Rattle.language_model.proofs.parts.Scopes.{variable_meant, port_of}
+use Rattle.language_model.specs.Typing.{Wanted, Found, after, mismatch, typed, as_wanted, number_typed, same_types, Part, part_typed, meant_typed, Wants, Anything, This, Another, elements_typed, list_typed, entries_typed, map_typed, are_distinct, gives_each, fields_typed, own_fields, tuple_typed, level_index, level_step, steps_typed, selected, select_typed, of_port, level_prefix, prefixes_at, prefixes_typed, integer_operator, order_operator, level_operator, operands_typed, level_in, binary_typed, marker_asked, conditional_typed, arguments_typed, function_typed, call_of, int32, OnFirst, level_first, argument_count, fixed_typed, no_value, arguments_of, built_in_typed, level_typed, typing}
+use Rattle.std.specs.Option.{option_or}
+use Rattle.language_model.specs.parts.Typing.{dollar_typed, wants_list, wants_map, wants_tuple, member_typed, port_attribute, of_base, on_integers, ordering_of, binary_or_marker, branch_wanted, value_given, call_typed}
+use Rattle.language_model.proofs.parts.Typing.{field_typed, prefix_typed, unary_typed, first_typed}
 use Rattle.language_model.specs.TypingLaws.{TypingAt, part}
 use Rattle.language_model.specs.CodeFits as F
 use Rattle.language_model.specs.CodeFits.{CodeFits, SlotFits, ElementsFit, PairsFit, FieldsFit, ArgumentsFit, StepsLead, UnaryGives, UnariesGive, BinaryGives, BuiltInGives}
@@ -370,7 +374,7 @@ abbrev pub OnOperands : SplType → Option (BinaryCode × SplType) → Type 0
 OnOperands t None = Unit {0}
 OnOperands t (Some op) = BinaryGives op.0 t t op.1
 
-integers_fit : (k : IntKind) (o : Option IntegerOperator) (r : Option OrderOperator) → OnOperands (S.Int k) (or_else (on_integers k o) (ordering_of r))
+integers_fit : (k : IntKind) (o : Option IntegerOperator) (r : Option OrderOperator) → OnOperands (S.Int k) (option_or (on_integers k o) (ordering_of r))
 integers_fit k (Some op) r = F.integers op k
 integers_fit k None (Some op) = F.orders_integers op k
 integers_fit k None None = tt
@@ -386,7 +390,7 @@ operator_fits B.And t T.Bool e = subst (λ t. BinaryGives D.And t t S.Bool) (sym
 operator_fits B.Or t T.Bool e = subst (λ t. BinaryGives D.Or t t S.Bool) (sym (rolled t T.Bool S.Bool e S.rolls-Bool)) F.either
 operator_fits B.Add t T.Text e = subst (λ t. BinaryGives D.Join t t S.Text) (sym (rolled t T.Text S.Text e S.rolls-Text)) F.joins
 operator_fits op t (T.Int k) e =
-    subst (λ t. OnOperands t (or_else (on_integers k (integer_operator op)) (ordering_of (order_operator op)))) (sym (rolled t (T.Int k) (S.Int k) e (S.rolls-Int k)))
+    subst (λ t. OnOperands t (option_or (on_integers k (integer_operator op)) (ordering_of (order_operator op)))) (sym (rolled t (T.Int k) (S.Int k) e (S.rolls-Int k)))
     (integers_fit k (integer_operator op) (order_operator op))
 operator_fits op t T.Text e = subst (λ t. OnOperands t (ordering_of (order_operator op))) (sym (rolled t T.Text S.Text e S.rolls-Text)) (texts_fit (order_operator op))
 operator_fits _ t _ e = tt

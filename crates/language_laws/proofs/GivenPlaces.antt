@@ -19,8 +19,10 @@ use Rattle.language_model.specs.declared.scope.Typed.{Typed}
 use Rattle.language_model.specs.declared.scope.CheckError.TheVariants as N
 use Rattle.language_model.specs.declared.scope.Variable.{Variable}
 use Rattle.language_model.specs.Readings.{level_name, level_root, root_of}
-use Rattle.language_model.specs.Scopes.{At, OfVariable, meant, variable_meant, variable_of, attributes_of, port_of}
-use Rattle.language_model.specs.Typing.{Found, after, as_wanted, refused, Part, meant_typed, steps_typed, selected, select_typed, of_port, of_base, is_mutable, if_mutable, typed, typing}
+use Rattle.language_model.specs.Scopes.{At, OfVariable, meant, variable_of, attributes_of}
+use Rattle.language_model.proofs.parts.Scopes.{variable_meant, port_of}
+use Rattle.language_model.specs.Typing.{Found, after, as_wanted, refused, Part, meant_typed, steps_typed, selected, select_typed, of_port, is_mutable, if_mutable, typed, typing}
+use Rattle.language_model.specs.parts.Typing.{of_base}
 use Rattle.language_model.proofs.ReadingLaws.{fold_at}
 use Rattle.language_model.proofs.TypingLaws as W
 use Rattle.language_model.specs.TypingLaws.{parted, step_parts}

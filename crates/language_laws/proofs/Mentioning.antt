@@ -47,7 +47,9 @@ use Rattle.language_model.specs.Mentions.{At, Mentions, dollars, part_mentions, 
 use Rattle.language_model.specs.Readings.{asks_punct, name_of, named_marker, root_of}
 use Rattle.language_model.specs.Scopes as Y
 use Rattle.language_model.specs.Scopes.{Meant, OfVariable, OfAttribute, OfPort, Nothing, at_place, first_from, meant, attribute_of, function_of, dollar_of}
-use Rattle.language_model.specs.Typing.{Wanted, Found, after, as_wanted, mismatch, refused, wrong_call, typed, Part, part_typed, dollar_typed, Wants, Anything, This, Another, wants_list, wants_map, wants_tuple, elements_typed, list_typed, entries_typed, map_typed, are_distinct, gives_each, field_typed, fields_typed, own_fields, tuple_typed, level_index, level_step, steps_typed, selected, select_typed, port_attribute, of_port, of_base, prefixes_typed, unary_typed, level_operator, operands_typed, level_in, binary_typed, marker_asked, binary_or_marker, branch_wanted, conditional_typed, arguments_typed, value_given, function_typed, call_of, int32, OnFirst, level_first, first_typed, level_changed, is_mutable, if_mutable, changed_typed, argument_count, fixed_typed, no_value, arguments_of, built_in_typed, call_typed, level_typed}
+use Rattle.language_model.specs.Typing.{Wanted, Found, after, as_wanted, mismatch, refused, wrong_call, typed, Part, part_typed, Wants, Anything, This, Another, elements_typed, list_typed, entries_typed, map_typed, are_distinct, gives_each, fields_typed, own_fields, tuple_typed, level_index, level_step, steps_typed, selected, select_typed, of_port, prefixes_typed, level_operator, operands_typed, level_in, binary_typed, marker_asked, conditional_typed, arguments_typed, function_typed, call_of, int32, OnFirst, level_first, level_changed, is_mutable, if_mutable, changed_typed, argument_count, fixed_typed, no_value, arguments_of, built_in_typed, level_typed}
+use Rattle.language_model.specs.parts.Typing.{dollar_typed, wants_list, wants_map, wants_tuple, port_attribute, of_base, binary_or_marker, branch_wanted, value_given, call_typed}
+use Rattle.language_model.proofs.parts.Typing.{field_typed, unary_typed, first_typed}
 use Rattle.language_model.specs.TypingLaws.{TypingAt, part}
 use Rattle.language_model.proofs.Wanting.{part_of, part_at}
 

@@ -14,7 +14,8 @@ use Rattle.language_model.specs.declared.scope.Scope.{Scope}
 use Rattle.language_model.specs.CodeFits as F
 use Rattle.language_model.specs.CodeFits.{CanBeNamed, CodeFits, SlotFits, ElementsFit, PairsFit, FieldsFit, ArgumentsFit, StepsLead}
 use Rattle.language_model.specs.Evaluation.{World, Calls, slot_value, world_of}
-use Rattle.language_model.specs.Scopes.{at_place, Meant, OfVariable, OfAttribute, OfPort, Nothing, meant, variable_meant, attributes_of, port_of, attribute_of}
+use Rattle.language_model.specs.Scopes.{at_place, Meant, OfVariable, OfAttribute, OfPort, Nothing, meant, attributes_of, attribute_of}
+use Rattle.language_model.proofs.parts.Scopes.{variable_meant, port_of}
 use Rattle.language_model.specs.ValueLaws.{WrittenLaw, NamesLaw}
 use Rattle.language_model.specs.Written.{Bare, Of, meant_slot, attribute_slot, slot_of_written, no_name, is_port, attribute_name, written, before_renaming, named_world}
 use Rattle.language_laws.proofs.Agreeing.{Agree, ValuesAgree, PairsAgree, FieldsAgree, StepsAgree, literals_agree, names_agree, lists_agree, maps_agree, tuples_agree, selects_agree, unaries_agree, binaries_agree, conditionals_agree, built_ins_agree, calls_agree, markers_agree, not_markers_agree, more_values, more_pairs, more_fields, members_agree, elements_agree, keys_agree}

@@ -32,8 +32,10 @@ use Rattle.language_model.specs.BodyFits.{PlaceFits}
 use Rattle.language_model.specs.CodeFits as F
 use Rattle.language_model.specs.CodeFits.{SlotFits, StepsLead}
 use Rattle.language_model.specs.Readings.{level_root, name_of, root_of}
-use Rattle.language_model.specs.Scopes.{At, at_place, Meant, OfVariable, OfAttribute, OfPort, Nothing, meant, variable_meant, variable_of, attributes_of, attribute_of, port_of}
-use Rattle.language_model.specs.Typing.{Wanted, Found, after, mismatch, as_wanted, same_types, Part, part_typed, meant_typed, steps_typed, selected, select_typed, port_attribute, of_port, of_base, is_mutable, if_mutable, level_typed, typed, typing}
+use Rattle.language_model.specs.Scopes.{At, at_place, Meant, OfVariable, OfAttribute, OfPort, Nothing, meant, variable_of, attributes_of, attribute_of}
+use Rattle.language_model.proofs.parts.Scopes.{variable_meant, port_of}
+use Rattle.language_model.specs.Typing.{Wanted, Found, after, mismatch, as_wanted, same_types, Part, part_typed, meant_typed, steps_typed, selected, select_typed, of_port, is_mutable, if_mutable, level_typed, typed, typing}
+use Rattle.language_model.specs.parts.Typing.{port_attribute, of_base}
 use Rattle.language_model.specs.TypingLaws.{TypingAt, part}
 use Rattle.language_model.specs.StatementTyping.{TypedPlace, level_variable, level_place, place_given, place_typing}
 use Rattle.language_model.specs.FitLaws.{DollarsFit}

@@ -37,7 +37,9 @@ use Rattle.language_model.specs.declared.scope.Signature.{Signature}
 use Rattle.language_model.specs.declared.scope.Typed.{Typed}
 use Rattle.language_model.specs.Readings.{name_of, root_of}
 use Rattle.language_model.specs.Scopes.{At, Meant, OfVariable, OfAttribute, OfPort, Nothing, meant, attribute_of, dollar_of, function_of, unresolved_of}
-use Rattle.language_model.specs.Typing.{Wanted, Found, after, mismatch, as_wanted, same_types, Part, part_typed, meant_typed, dollar_typed, number_typed, Wants, Anything, This, Another, elements_typed, list_typed, wants_list, entries_typed, map_typed, wants_map, are_distinct, gives_each, field_typed, fields_typed, own_fields, tuple_typed, wants_tuple, level_index, member_typed, level_step, steps_typed, select_typed, port_attribute, of_port, of_base, prefix_typed, prefixes_at, prefixes_typed, level_prefix, unary_typed, operands_typed, level_operator, level_in, binary_typed, binary_or_marker, branch_wanted, conditional_typed, arguments_typed, value_given, not_callable, function_typed, call_of, OnFirst, level_first, first_typed, level_changed, is_mutable, if_mutable, changed_typed, argument_count, int32, no_value, arguments_of, call_typed, level_typed}
+use Rattle.language_model.specs.Typing.{Wanted, Found, after, mismatch, as_wanted, same_types, Part, part_typed, meant_typed, number_typed, Wants, Anything, This, Another, elements_typed, list_typed, entries_typed, map_typed, are_distinct, gives_each, fields_typed, own_fields, tuple_typed, level_index, level_step, steps_typed, select_typed, of_port, prefixes_at, prefixes_typed, level_prefix, operands_typed, level_operator, level_in, binary_typed, conditional_typed, arguments_typed, not_callable, function_typed, call_of, OnFirst, level_first, level_changed, is_mutable, if_mutable, changed_typed, argument_count, int32, no_value, arguments_of, level_typed}
+use Rattle.language_model.specs.parts.Typing.{dollar_typed, wants_list, wants_map, wants_tuple, member_typed, port_attribute, of_base, binary_or_marker, branch_wanted, value_given, call_typed}
+use Rattle.language_model.proofs.parts.Typing.{field_typed, prefix_typed, unary_typed, first_typed}
 use Rattle.language_model.specs.TypingLaws.{parted, parts, entry_parts, field_parts, step_part, step_parts, part}
 use Rattle.language_model.proofs.TypingLaws as L
 use Rattle.language_laws.specs.Places.{Inside, inside, step_places, level_places, kind_places, places, IsAmong, IsHandedOn, of_dollar, of_function, PlaceLaw}

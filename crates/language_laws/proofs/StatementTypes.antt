@@ -36,9 +36,11 @@ use Rattle.language_model.specs.CodeFits.{CodeFits, ArgumentsFit}
 use Rattle.language_model.specs.FitLaws.{DollarsFit}
 use Rattle.language_model.specs.Readings.{root_of}
 use Rattle.language_model.specs.Scopes.{At, function_of, unresolved_of}
-use Rattle.language_model.specs.Typing.{Found, after, as_wanted, same_types, mismatch, wrong_call, Part, part_typed, OnFirst, level_first, first_typed, fixed_typed, no_value, level_operator, operands_typed, arguments_typed, int32, level_changed, changed_typed, argument_count, arguments_of, built_in_typed, call_of, typing}
+use Rattle.language_model.specs.Typing.{Found, after, as_wanted, same_types, mismatch, wrong_call, Part, part_typed, OnFirst, level_first, fixed_typed, no_value, level_operator, operands_typed, arguments_typed, int32, level_changed, changed_typed, argument_count, arguments_of, built_in_typed, call_of, typing}
+use Rattle.language_model.proofs.parts.Typing.{first_typed}
 use Rattle.language_model.specs.TypingLaws.{parted}
-use Rattle.language_model.specs.StatementTyping.{level_place, place_given, place_typing, assignment_typing, compound_typing, change_made, change_typing, built_in_statement, function_statement, call_statement, level_call, call_typing}
+use Rattle.language_model.specs.StatementTyping.{level_place, place_given, place_typing, assignment_typing, compound_typing, change_made, change_typing, built_in_statement, function_statement, level_call, call_typing}
+use Rattle.language_model.specs.parts.StatementTyping.{call_statement}
 use Rattle.language_laws.specs.PlaceLaws.{FitsAnywhere, AssignmentTypeLaw, CompoundTypeLaw, CallTypeLaw}
 use Rattle.language_model.proofs.SameTypes.{equal_from_same}
 use Rattle.language_model.proofs.Standing.{Bears, function_there}

@@ -21,7 +21,8 @@ use Rattle.language_model.specs.declared.scope.Scope.{Scope}
 use Rattle.language_model.specs.declared.scope.Typed.{Typed}
 use Rattle.language_laws.specs.examples.TwoPorts.{two_ports, comparison}
 use Rattle.language_model.specs.Readings.{level_name}
-use Rattle.language_model.specs.Typing.{Found, after, as_wanted, mismatch, typed, of_base, level_operator, operands_typed, typing}
+use Rattle.language_model.specs.Typing.{Found, after, as_wanted, mismatch, typed, level_operator, operands_typed, typing}
+use Rattle.language_model.specs.parts.Typing.{of_base}
 use Rattle.language_model.specs.TypingLaws.{parted, step_parts}
 use Rattle.language_model.specs.Written.{Of, written, renamed}
 use Rattle.language_laws.proofs.Renaming.{renamed_at}

@@ -14,10 +14,12 @@ use Rattle.language_model.specs.declared.scope.Scope.{Scope}
 use Rattle.language_model.specs.declared.scope.Signature.{Signature}
 use Rattle.language_model.specs.declared.scope.Typed.{Typed}
 use Rattle.language_model.specs.Scopes.{At, function_of, unresolved_of}
-use Rattle.language_model.specs.Typing.{Found, after, as_wanted, mismatch, wrong_call, Part, arguments_typed, value_given, function_typed, no_value, argument_count, arguments_of, built_in_typed, call_of, call_typed}
+use Rattle.language_model.specs.Typing.{Found, after, as_wanted, mismatch, wrong_call, Part, arguments_typed, function_typed, no_value, argument_count, arguments_of, built_in_typed, call_of}
+use Rattle.language_model.specs.parts.Typing.{value_given, call_typed}
 use Rattle.language_model.specs.TypingLaws.{parted}
 use Rattle.language_model.proofs.TypingLaws as W
-use Rattle.language_model.specs.StatementTyping.{built_in_statement, function_statement, call_statement}
+use Rattle.language_model.specs.StatementTyping.{built_in_statement, function_statement}
+use Rattle.language_model.specs.parts.StatementTyping.{call_statement}
 use Rattle.language_laws.specs.PlaceLaws as P
 use Rattle.language_laws.specs.PlaceLaws.{IsCallOf, ValueCallLaw}
 use Rattle.language_model.proofs.Wanting.{gives_if, gives_no_call, Some_thing, gives_some}

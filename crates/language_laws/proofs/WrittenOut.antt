@@ -17,7 +17,8 @@ use Rattle.spl_tree.specs.declared.expression.ExprKind.TheFolds.{fold_out-ExprKi
 use Rattle.language_model.specs.declared.scope.Scope.{Scope}
 use Rattle.language_model.specs.declared.scope.Typed.{Typed}
 use Rattle.language_model.specs.Readings.{asks_punct, level_asks, level_root, named_marker, root_of}
-use Rattle.language_model.specs.Typing.{Found, after, as_wanted, level_operator, operands_typed, binary_typed, marker_asked, binary_or_marker, typing}
+use Rattle.language_model.specs.Typing.{Found, after, as_wanted, level_operator, operands_typed, binary_typed, marker_asked, typing}
+use Rattle.language_model.specs.parts.Typing.{binary_or_marker}
 use Rattle.language_model.proofs.TypingLaws as W
 use Rattle.language_model.specs.StatementTyping.{TypedPlace, place_typing}
 use Rattle.language_laws.specs.PlaceLaws.{written_out, CompoundLaw}

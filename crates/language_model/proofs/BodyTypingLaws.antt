@@ -14,7 +14,8 @@ use Rattle.spl_tree.specs.declared.statement.StmtKind.TheViews.{out-StmtKind}
 use Rattle.spl_tree.specs.declared.statement.StmtKind.TheFolds.{fold-StmtKind, fold_out-StmtKind, map-StmtKind}
 use Rattle.spl_tree.specs.Trees.{Expr, Stmt, TypeExpr}
 use Rattle.language_model.specs.declared.scope.Scope.{Scope}
-use Rattle.language_model.specs.BodyTyping.{Setting, Stated, level_stated, stated, level_returns, returns}
+use Rattle.language_model.specs.BodyTyping.{Setting, Stated, level_stated, level_returns, returns}
+use Rattle.language_model.specs.parts.BodyTyping.{stated}
 use Rattle.language_model.specs.BodyTypingLaws.{all_return, arms_stated, kind_returns, other_stated, row_stated}
 
 -- ---- statements

@@ -10,7 +10,8 @@ use Rattle.spl_value.specs.declared.value.Value.TheViews.{out-Value, roll-Value,
 use Rattle.spl_value.specs.Calls.{Gives, Unfit, length_at, length_of, size_at, size_of, has_at, has_key, append_at, append_of, remove_at, remove_of, clear_at, clear_of, abs_at, abs_of, are_alike, if_alike, lesser, greater, min_of, max_of, substring_at, substring_of}
 use Rattle.spl_tree.specs.declared.body.Change.TheVariants as H
 use Rattle.spl_tree.specs.declared.code.BuiltIn.TheVariants as Q
-use Rattle.language_model.specs.BuiltInCalls.{level_call, built_in_of, level_place_call}
+use Rattle.language_model.specs.BuiltInCalls.{level_call, level_place_call}
+use Rattle.language_model.specs.parts.BuiltInCalls.{built_in_of}
 use Rattle.language_model.specs.Changes.{change_of}
 
 -- ---- by the forms of the arguments

@@ -14,9 +14,12 @@ use Rattle.language_model.specs.declared.scope.Signature.{Signature}
 use Rattle.language_model.specs.declared.scope.Variable.{Variable}
 use Rattle.language_model.specs.BodyFits.{Purpose, OfFunction, result_of, RowFits, RowReturns}
 use Rattle.language_model.specs.Evaluation.{code_value, world_of}
-use Rattle.language_model.specs.Functions.{function_env, bodies_of, calls_of}
+use Rattle.language_model.specs.Functions.{function_env, bodies_of}
+use Rattle.language_model.specs.parts.Functions.{calls_of}
 use Rattle.language_model.specs.Outcomes.{Outcome, Done, Faulted, Stuck}
-use Rattle.language_model.specs.Statements.{State, Bodies, Left, scoped, statement_acts, row_acts, returned_by, left_by, body_leaves}
+use Rattle.language_model.specs.Statements.{State, Bodies, Left, scoped, returned_by, body_leaves}
+use Rattle.language_model.specs.parts.Statements.{statement_acts, row_acts}
+use Rattle.language_model.proofs.parts.Statements.{left_by}
 use Rattle.language_model.specs.ValueLaws.{NeverStuckLaw, StatementLeadsLaw, BodyLeavesLaw}
 use Rattle.language_model.specs.WorldFits.{VariablesFit, body_scope, FunctionFits, FunctionsFit, ComesTo, LeadsTo, SubmitFits, ResultFits, LeftFits, Leaves}
 use Rattle.language_model.proofs.Evaluating.{code_comes}

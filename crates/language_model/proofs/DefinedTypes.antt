@@ -11,7 +11,8 @@ use Rattle.std.proofs.lemmas.Option.{same_Some, slice_get_within}
 use Rattle.spl_tree.specs.declared.unit.TypeDefinition.{TypeDefinition}
 use Rattle.language_model.specs.Leading.{leads}
 use Rattle.language_model.specs.Scopes.{At}
-use Rattle.language_model.specs.TypeNames.{Types, Names, shape_meant, shape_names, definition_of, leads_to, is_circular, defined_type, types_within, types_of}
+use Rattle.language_model.specs.TypeNames.{Types, shape_meant, definition_of, leads_to, types_within, types_of}
+use Rattle.language_model.specs.parts.TypeNames.{Names, shape_names, is_circular, defined_type}
 use Rattle.language_model.specs.TypeNameLaws.{NamesLaw}
 use Rattle.language_model.specs.Typing.{unknown}
 use Rattle.language_model.proofs.Standing.{Stands, first_stands}

@@ -30,10 +30,12 @@ use Rattle.language_model.specs.declared.scope.Scope.{Scope}
 use Rattle.language_model.specs.declared.scope.Signature.{Signature}
 use Rattle.language_model.specs.CodeFits as F
 use Rattle.language_model.specs.CodeFits.{CodeFits, SlotFits, ElementsFit, PairsFit, FieldsFit, ArgumentsFit, StepsLead, UnariesGive, BinaryGives, BuiltInGives}
-use Rattle.language_model.specs.Evaluation.{World, Meaning, Calls, map_of, tuple_of, unaries_of, truth, binary, same_marker, code_value, slot_value, world_of}
+use Rattle.language_model.specs.Evaluation.{World, Meaning, Calls, tuple_of, unaries_of, truth, binary, same_marker, code_value, slot_value, world_of}
+use Rattle.language_model.specs.parts.Evaluation.{map_of}
 use Rattle.language_model.specs.EvaluationLaws.{values_of, pair_values, field_values, takings_value, truth_value, literal_is, name_is, list_is, map_is, tuple_is, select_is, unary_is, binary_is, conditional_is, built_in_is, call_is, is_marker_is, is_not_marker_is}
-use Rattle.language_model.specs.BuiltInCalls.{built_in_of}
-use Rattle.language_model.specs.Operators.{binary_of, unary_of, level_member, level_element, level_at_key, truth_of}
+use Rattle.language_model.specs.parts.BuiltInCalls.{built_in_of}
+use Rattle.language_model.specs.Operators.{binary_of, level_member, level_element, level_at_key}
+use Rattle.language_model.specs.parts.Operators.{unary_of, truth_of}
 use Rattle.language_model.specs.Outcomes.{Outcome, Done, followed, settled}
 use Rattle.language_model.specs.WorldFits.{EnvFits}
 use Rattle.language_model.proofs.Counting.{how_often}

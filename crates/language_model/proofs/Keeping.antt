@@ -24,7 +24,9 @@ use Rattle.language_model.specs.Changes.{changed, change_of}
 use Rattle.language_model.specs.Evaluation.{all_of, code_value, world_of}
 use Rattle.language_model.specs.Outcomes.{Done, Faulted, settled}
 use Rattle.language_model.specs.StatementLaws.{arms_act, block_is, declare_is, change_is, evaluate_is, call_is, if_is, while_is, for_is, break_is, continue_is, return_is, submit_is, submit_window_is}
-use Rattle.language_model.specs.Statements.{State, Acts, Bodies, Left, calls_by, value_in, truth_in, with_vars, declared, ended, scoped, submitted, change_values, then_rest, then_again, turn_while, turns_while, turns_over, level_elements, level_tuple, return_acts, statement_acts, row_acts, left_by, body_leaves}
+use Rattle.language_model.specs.Statements.{State, Acts, Bodies, Left, calls_by, value_in, truth_in, with_vars, declared, scoped, submitted, change_values, then_rest, then_again, turn_while, turns_while, turns_over, level_elements, level_tuple, body_leaves}
+use Rattle.language_model.proofs.parts.Statements.{ended, left_by}
+use Rattle.language_model.specs.parts.Statements.{return_acts, statement_acts, row_acts}
 use Rattle.language_model.proofs.Returning.{Only, only_followed, only_either, only_enter, only_is, need_is}
 use Rattle.language_model.proofs.StatementInduction.{OfArm, StatementSteps, statement_ind}
 

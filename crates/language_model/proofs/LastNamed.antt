@@ -2,7 +2,8 @@
 use Rattle.std.specs.Prelude.{◌≡◌, ℕ, suc, ◌+◌, ◌<◌, Bool, true, false, List, [], ◌∷◌, ◌++◌, length, take, Option, Some, None, if◌then◌else◌}
 use Rattle.std.proofs.Common.{refl, ap, sym, ◌∙◌, arith, get_or}
 use Rattle.std.proofs.lemmas.List.{length-take-le}
-use Rattle.language_model.specs.Scopes.{At, at_place, last_from, or_before}
+use Rattle.language_model.specs.Scopes.{At, at_place, last_from}
+use Rattle.language_model.proofs.parts.Scopes.{or_before}
 use Rattle.spl_value.proofs.Lists.{take_at as taken_on}
 
 or_before_or : {A : Type 0} (x y z : Option (At A)) → or_before (or_before x y) z ≡ or_before x (or_before y z)

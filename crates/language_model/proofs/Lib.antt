@@ -28,3 +28,4 @@ mod LastNamed
 pub mod PlainCodes
 pub mod Keeping
 pub mod Options
+pub mod parts

@@ -34,8 +34,10 @@ use Rattle.spl_tree.specs.declared.code.BuiltIn.{BuiltIn}
 use Rattle.spl_tree.specs.declared.code.BuiltIn.TheVariants as Q
 use Rattle.language_model.specs.CodeFits as F
 use Rattle.language_model.specs.CodeFits.{UnaryGives, BuiltInGives}
-use Rattle.language_model.specs.BuiltInCalls.{built_in_of}
-use Rattle.language_model.specs.Operators.{integer, divided, bits_of, on_bits, on_integers, level_integers, boolean, in_order, ordered, is_equal, level_join, level_in_list, level_in_map, binary_of, bool_text, level_unary, unary_of, found, given, level_member, element_at, level_element, level_at_key, level_truth, truth_of}
+use Rattle.language_model.specs.parts.BuiltInCalls.{built_in_of}
+use Rattle.language_model.specs.Operators.{integer, divided, bits_of, on_bits, on_integers, level_integers, in_order, level_join, level_in_list, level_in_map, binary_of, level_unary, level_member, element_at, level_element, level_at_key, level_truth}
+use Rattle.language_model.specs.parts.Operators.{boolean, bool_text, unary_of, found, truth_of}
+use Rattle.language_model.proofs.parts.Operators.{ordered, is_equal, given}
 use Rattle.language_model.proofs.BuiltInCalls.{length_called, size_called, has_called, abs_called, min_called, max_called, substring_called}
 use Rattle.language_model.proofs.Yielding.{IsThere, AnyAnswer, OfType, Settles}
 

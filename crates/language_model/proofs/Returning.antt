@@ -11,7 +11,8 @@ use Rattle.language_model.specs.BodyFits as B
 use Rattle.language_model.specs.BodyFits.{RowReturns, Returns, ArmsReturn}
 use Rattle.language_model.specs.Outcomes.{Outcome, Done, Faulted, Stuck, followed, enter, need}
 use Rattle.language_model.specs.StatementLaws.{arms_act, block_is, if_is, return_is}
-use Rattle.language_model.specs.Statements.{State, Acts, Bodies, value_in, truth_in, scoped, then_rest, return_acts, statement_acts, row_acts}
+use Rattle.language_model.specs.Statements.{State, Acts, Bodies, value_in, truth_in, scoped, then_rest}
+use Rattle.language_model.specs.parts.Statements.{return_acts, statement_acts, row_acts}
 
 -- an answer, if there is one, has the fact
 abbrev pub Only : {A : Type 0} → (A → Type 0) → Outcome A → Type 0

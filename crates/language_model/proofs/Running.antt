@@ -37,7 +37,8 @@ use Rattle.language_model.specs.Evaluation.{code_value, world_of}
 use Rattle.language_model.specs.EvaluationLaws.{values_of}
 use Rattle.language_model.specs.Outcomes.{Done, Faulted, followed, need, settled}
 use Rattle.language_model.specs.StatementLaws.{arms_act, block_is, declare_is, change_is, evaluate_is, call_is, if_is, while_is, for_is, break_is, continue_is, return_is, submit_is, submit_window_is}
-use Rattle.language_model.specs.Statements.{State, Acts, Bodies, calls_by, value_in, truth_in, declared, scoped, step_value, step_values, steps_taken, changed_at, change_value, change_values, then_rest, then_again, turn_while, turns_while, turns_over, level_elements, level_tuple, return_acts, statement_acts, row_acts}
+use Rattle.language_model.specs.Statements.{State, Acts, Bodies, calls_by, value_in, truth_in, declared, scoped, step_value, steps_taken, change_value, change_values, then_rest, then_again, turn_while, turns_while, turns_over, level_elements, level_tuple}
+use Rattle.language_model.specs.parts.Statements.{step_values, changed_at, return_acts, statement_acts, row_acts}
 use Rattle.language_model.specs.WorldFits.{EnvFits, VariablesFit, SubmitFits, ResultFits}
 use Rattle.language_model.proofs.Changing.{ChangeGives, StepGives, StepsGive, step_settles, changed_settles}
 use Rattle.language_model.proofs.Changing as G

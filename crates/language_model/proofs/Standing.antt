@@ -7,7 +7,9 @@ use Rattle.spl_value.specs.declared.types.Named.{Named}
 use Rattle.spl_value.specs.declared.types.SplType.{SplType}
 use Rattle.language_model.specs.declared.scope.Port.{Port}
 use Rattle.language_model.specs.declared.scope.Scope.{Scope}
-use Rattle.language_model.specs.Scopes.{At, at_place, first_from, last_from, or_before, variable_of, attribute_of, PortAttribute, in_port, attributes_from, attributes_of, port_of, function_of}
+use Rattle.language_model.specs.Scopes.{At, at_place, first_from, last_from, variable_of, attribute_of, PortAttribute, attributes_from, attributes_of, function_of}
+use Rattle.language_model.proofs.parts.Scopes.{or_before, port_of}
+use Rattle.language_model.specs.parts.Scopes.{in_port}
 
 -- what was found in a list that begins at a place is there, and passes
 abbrev pub Stands : {A : Type 0} → (A → Bool) → List A → ℕ → Option (At A) → Type 0

@@ -16,7 +16,8 @@ use Rattle.spl_tree.specs.declared.shape.TypeKind.TheOpen.{TypeKind-F}
 use Rattle.spl_tree.specs.declared.shape.TypeKind.TheViews.{roll-TypeKind}
 use Rattle.spl_tree.specs.declared.shape.TypeKind.TheFolds.{map-TypeKind, ind-TypeKind}
 use Rattle.spl_tree.specs.Trees.{TypeExpr, Shape}
-use Rattle.language_model.specs.TypeNames.{Types, Names, attributes_type, written_attributes, tuple_type, shape_meant, shape_names, type_names}
+use Rattle.language_model.specs.TypeNames.{Types, attributes_type, written_attributes, tuple_type, shape_meant, type_names}
+use Rattle.language_model.specs.parts.TypeNames.{Names, shape_names}
 use Rattle.language_model.proofs.TypeNameLaws.{kind_written, kind_names_in, boolean_written, rstring_written, int_written, left_out_written, name_written, list_written, map_written, tuple_written, name_names, list_names, map_names, tuple_names}
 use Rattle.language_model.specs.Typing.{after}
 use Rattle.spl_value.proofs.Lists.{all_left as all_front, all_right as all_back}

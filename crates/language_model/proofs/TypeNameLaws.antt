@@ -11,7 +11,8 @@ use Rattle.spl_tree.specs.declared.shape.TypeKind.TheOpen.{TypeKind-F}
 use Rattle.spl_tree.specs.declared.shape.TypeKind.TheViews.{out-TypeKind}
 use Rattle.spl_tree.specs.declared.shape.TypeKind.TheFolds.{fold-TypeKind, fold_out-TypeKind, map-TypeKind}
 use Rattle.spl_tree.specs.Trees.{TypeExpr}
-use Rattle.language_model.specs.TypeNames.{Types, Written, level_type, written, written_attributes, Names, level_names, type_names}
+use Rattle.language_model.specs.TypeNames.{Types, Written, level_type, written, written_attributes, level_names, type_names}
+use Rattle.language_model.specs.parts.TypeNames.{Names}
 
 -- ---- what types mean
 

@@ -20,7 +20,8 @@ use Rattle.spl_tree.proofs.Induction.{ExprSteps, expr_ind}
 use Rattle.language_model.specs.declared.scope.CheckRefusal.{CheckRefusal}
 use Rattle.language_model.specs.declared.scope.Scope.{Scope}
 use Rattle.language_model.specs.declared.scope.Typed.{Typed}
-use Rattle.language_model.specs.Typing.{Wanted, Found, after, mismatch, as_wanted, same_types, Part, part_typed, Wants, Anything, This, Another, level_element, wants_list, level_pair, wants_map, level_schema, wants_tuple, elements_typed, list_typed, entries_typed, map_typed, are_distinct, gives_each, fields_typed, own_fields, tuple_typed, not_callable, branch_wanted, conditional_typed, level_typed, typing}
+use Rattle.language_model.specs.Typing.{Wanted, Found, after, mismatch, as_wanted, same_types, Part, part_typed, Wants, Anything, This, Another, level_element, level_pair, level_schema, elements_typed, list_typed, entries_typed, map_typed, are_distinct, gives_each, fields_typed, own_fields, tuple_typed, not_callable, conditional_typed, level_typed, typing}
+use Rattle.language_model.specs.parts.Typing.{wants_list, wants_map, wants_tuple, branch_wanted}
 use Rattle.language_model.specs.TypingLaws.{TypingAt, part}
 use Rattle.language_model.specs.FitLaws.{WantedLaw}
 use Rattle.language_model.proofs.SameTypes.{equal_from_same}

@@ -1,5 +1,6 @@
 -- The result of reading and checking a program: its checked graph, or its first refusal, with its place.
 use Rattle.std.specs.Prelude.{ℕ, List, Result, Ok, Err}
+use Rattle.std.specs.Result.{result_map_both}
 use Rattle.spl_tree.specs.declared.graph.Graph.{Graph}
 use Rattle.spl_tree.specs.declared.token.LexicalError.{LexicalError}
 use Rattle.spl_tree.specs.declared.token.Tokens.{Tokens}
@@ -21,10 +22,6 @@ pub data ProgramRefusal : Type 0 where
   Expansion : ExpansionRefusal → ProgramRefusal
   Check : CheckRefusal → ProgramRefusal
 
-abbrev pub refused_check : Result CheckedGraph CheckRefusal → Result CheckedGraph ProgramRefusal
-refused_check (Ok c) = Ok c
-refused_check (Err refusal) = Err (Check refusal)
-
 -- the bytes of a program, where sinks may not have the files of these names, give a checked graph or a refusal
 pub data IsAccepted (bytes : List ℕ) (names : List (List ℕ)) : Result CheckedGraph ProgramRefusal → Type 0 where
   no_tokens : (error : LexicalError) (at : ℕ) → IsLexed bytes (Err (error, at)) → IsAccepted bytes names (Err (Lexical error at))
@@ -33,4 +30,4 @@ pub data IsAccepted (bytes : List ℕ) (names : List (List ℕ)) : Result Checke
   no_graph : (ts : Tokens) (unit : List Definition) (refusal : ExpansionRefusal) → IsLexed bytes (Ok ts) → IsUnit ts unit
       → IsFlat unit names (Err refusal) → IsAccepted bytes names (Err (Expansion refusal))
   checks : (ts : Tokens) (unit : List Definition) (g : Graph) → IsLexed bytes (Ok ts) → IsUnit ts unit
-      → IsFlat unit names (Ok g) → IsAccepted bytes names (refused_check (checked unit g))
+      → IsFlat unit names (Ok g) → IsAccepted bytes names (result_map_both (λ c. c) Check (checked unit g))

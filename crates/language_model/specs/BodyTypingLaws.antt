@@ -5,7 +5,8 @@ use Rattle.spl_tree.specs.declared.expression.Placed.{Placed}
 use Rattle.spl_tree.specs.declared.statement.StmtKind.{StmtKind}
 use Rattle.spl_tree.specs.declared.statement.StmtKind.TheFolds.{fold-StmtKind}
 use Rattle.spl_tree.specs.Trees.{Expr, Stmt}
-use Rattle.language_model.specs.BodyTyping.{Stated, stated, level_returns}
+use Rattle.language_model.specs.BodyTyping.{Stated, level_returns}
+use Rattle.language_model.specs.parts.BodyTyping.{stated}
 
 abbrev pub row_stated : List Stmt → List (Placed Stated)
 row_stated ss = map stated ss

@@ -1,12 +1,12 @@
 -- What the calls that the language has built in give: a line for each call and the variants of its arguments; all else is `Unfit`.
 -- `currentPunct()` isn't among them: it is read together with what it is compared to.
-use Rattle.std.specs.Prelude.{pos, nat_abs, nat_lt, if◌then◌else◌, List, [], ◌∷◌, ◌++◌, map, length, take, drop}
+use Rattle.std.specs.Prelude.{pos, nat_abs, nat_lt, if◌then◌else◌, List, [], ◌∷◌, ◌++◌, length, take, drop}
 use Rattle.spl_value.specs.declared.item.FaultKind.TheVariants.{Index}
 use Rattle.spl_value.specs.declared.value.Value.{Value}
 use Rattle.spl_value.specs.declared.value.Value.TheVariants as V
 use Rattle.spl_value.specs.declared.value.Value.TheOpen as O
 use Rattle.spl_value.specs.declared.value.Value.TheOpen.{Value-F}
-use Rattle.spl_value.specs.declared.value.Value.TheViews.{out-Value, roll-Value}
+use Rattle.spl_value.specs.declared.value.Value.TheViews.{roll-Value}
 use Rattle.spl_value.specs.Calls.{CallOutcome, Gives, Faults, Unfit, count_value, lesser, greater}
 use Rattle.spl_value.specs.Pairs.{pairs_contain, pairs_without}
 use Rattle.spl_value.specs.Wrap.{wrapped}
@@ -33,10 +33,6 @@ level_call Q.Substring (O.Text bytes ∷ O.Int (pos from) ∷ O.Int (pos count) 
     if nat_lt (length bytes) from then Faults Index else Gives (V.Text (take count (drop from bytes)))
 level_call Q.Substring (O.Text bytes ∷ O.Int from ∷ O.Int count ∷ []) = Faults Index
 level_call _ _ = Unfit
-
--- what it gives for its arguments
-abbrev pub built_in_of : BuiltIn → List Value → CallOutcome
-built_in_of call vs = level_call call (map out-Value vs)
 
 -- ---- calls that change a place: `appendM`, `removeM` and `clearM`
 

@@ -1,5 +1,6 @@
 -- What a place is: the variable that is changed or what is taken of it in turn, and how the variable's value changes with it.
 use Rattle.std.specs.Prelude.{ℕ, pos, List, [], ◌∷◌, Option, None, Some, slice_get, slice_set}
+use Rattle.std.specs.Option.{option_map_or}
 use Rattle.spl_value.specs.declared.item.FaultKind.TheVariants as F
 use Rattle.spl_value.specs.declared.value.Value.{Value}
 use Rattle.spl_value.specs.declared.value.Value.TheVariants as V
@@ -13,7 +14,7 @@ use Rattle.spl_tree.specs.declared.body.Change.TheVariants as H
 use Rattle.spl_tree.specs.declared.code.Selector.{Selector}
 use Rattle.spl_tree.specs.declared.code.Selector.TheVariants as K
 use Rattle.language_model.specs.BuiltInCalls.{level_place_call}
-use Rattle.language_model.specs.Operators.{given, level_member, level_element, level_at_key}
+use Rattle.language_model.specs.Operators.{level_member, level_element, level_at_key}
 
 -- a value that is given is passed on
 abbrev pub passed_on : CallOutcome → (Value → CallOutcome) → CallOutcome
@@ -36,7 +37,7 @@ level_index _ = 0
 -- be changed; what an assignment makes of nothing is added there
 abbrev pub level_changed : Selector Value → (Option Value → CallOutcome) → Value-F Value → CallOutcome
 level_changed (K.Member i) change (O.Tuple vs) =
-    passed_on (given (slice_get vs i)) (λ old. passed_on (change (Some old)) (λ new. Gives (V.Tuple (slice_set vs i new))))
+    passed_on (option_map_or Gives (slice_get vs i) Unfit) (λ old. passed_on (change (Some old)) (λ new. Gives (V.Tuple (slice_set vs i new))))
 level_changed (K.Element n) change (O.List vs) =
     passed_on (level_element (O.List vs) (out-Value n)) (λ old.
     passed_on (change (Some old)) (λ new. Gives (V.List (slice_set vs (level_index (out-Value n)) new))))

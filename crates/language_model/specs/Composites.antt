@@ -1,6 +1,7 @@
 -- The composites and functions of a unit, and which composite is the main one.
-use Rattle.std.specs.Prelude.{ℕ, Bool, true, false, ◌&&◌, List, [], ◌∷◌, filter_map, if◌then◌else◌, codes, Option, Some, None, is_some}
+use Rattle.std.specs.Prelude.{ℕ, Bool, true, false, ◌&&◌, List, [], ◌∷◌, drop, filter_map, if◌then◌else◌, codes, Option, Some, None, is_some}
 use Rattle.std.specs.List.{list_all}
+use Rattle.std.specs.Option.{option_and_then, option_map_or}
 use Rattle.std.specs.Str.{bytes_eq}
 use Rattle.spl_tree.specs.declared.unit.Composite.{Composite}
 use Rattle.spl_tree.specs.declared.unit.Definition.{Definition}
@@ -34,29 +35,12 @@ abbrev pub has_no_ports : Composite → Bool
 has_no_ports c = is_empty c.outputs && is_empty c.inputs
 
 -- a main composite has no ports, and each of its parameters has a default
-abbrev pub may_be_main : Composite → Bool
-may_be_main c = has_no_ports c && list_all (λ p. is_some p.default) c.parameters
-
 abbrev pub if_main : At Composite → Option ℕ
-if_main c = if may_be_main c.what then Some c.place else None
-
--- the first composite without ports, where there are no others after it
-abbrev pub only_one : Option (At Composite) → List Composite → Option ℕ
-only_one None others = None
-only_one (Some c) [] = if_main c
-only_one (Some c) (d ∷ others) = None
-
-abbrev pub portless : List Composite → List Composite
-portless cs = filter_map (λ c. if has_no_ports c then Some c else None) cs
-
-abbrev pub behind_first : {A : Type 0} → List A → List A
-behind_first [] = []
-behind_first (x ∷ xs) = xs
-
-abbrev pub named_or_only : List Definition → Option (At Composite) → Option ℕ
-named_or_only unit (Some c) = if_main c
-named_or_only unit None = only_one (first_from has_no_ports 0 (composites unit)) (behind_first (portless (composites unit)))
+if_main c = if has_no_ports c.what && list_all (λ p. is_some p.default) c.what.parameters then Some c.place else None
 
 -- the place of the main composite: the one named `Main`, or, where none has this name, the only one without ports
 abbrev pub main_of : List Definition → Option ℕ
-main_of unit = named_or_only unit (composite_named unit (codes "Main"))
+main_of unit =
+    let portless : List Composite = filter_map (λ c. if has_no_ports c then Some c else None) (composites unit) in
+    let sole : Option ℕ = option_and_then (λ c. if is_empty (drop 1 portless) then if_main c else None) (first_from has_no_ports 0 (composites unit)) in
+    option_map_or if_main (composite_named unit (codes "Main")) sole

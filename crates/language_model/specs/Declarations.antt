@@ -10,8 +10,6 @@ use Rattle.spl_tree.specs.declared.shape.ShapeKind.TheVariants as H
 use Rattle.spl_tree.specs.declared.shape.TypeKind.TheOpen as Y
 use Rattle.spl_tree.specs.declared.shape.TypeKind.TheOpen.{TypeKind-F}
 use Rattle.spl_tree.specs.declared.shape.TypeKind.TheFolds.{fold-TypeKind}
-use Rattle.spl_tree.specs.declared.statement.Declaration.{Declaration}
-use Rattle.spl_tree.specs.declared.statement.StmtKind.{StmtKind}
 use Rattle.spl_tree.specs.declared.statement.StmtKind.TheOpen as Z
 use Rattle.spl_tree.specs.declared.statement.StmtKind.TheOpen.{StmtKind-F}
 use Rattle.spl_tree.specs.declared.statement.StmtKind.TheFolds.{fold-StmtKind}
@@ -21,7 +19,7 @@ use Rattle.spl_tree.specs.declared.unit.Definition.TheVariants as D
 use Rattle.spl_tree.specs.declared.unit.HeadPort.{HeadPort}
 use Rattle.spl_tree.specs.declared.unit.Invocation.{Invocation}
 use Rattle.spl_tree.specs.declared.unit.Logic.{Logic}
-use Rattle.spl_tree.specs.Trees.{Stmt, TypeExpr, Shape}
+use Rattle.spl_tree.specs.Trees.{Stmt, TypeExpr}
 use Rattle.language_model.specs.Typing.{call_of}
 
 -- ---- names that stand again
@@ -56,12 +54,6 @@ abbrev pub is_built_in : Definition → Bool
 is_built_in (D.Function f) = is_some (call_of f.name.what)
 is_built_in d = false
 
-abbrev pub is_defined : List Definition → Definition → Bool
-is_defined before d = is_built_in d || list_any (λ e. is_same (definition_name e) (definition_name d)) before
-
-abbrev pub repeated_definitions : List Definition → List Name
-repeated_definitions unit = map definition_name (repeated is_defined unit)
-
 -- ---- the streams, aliases and ports of a composite
 
 -- a name of this set, and what has it
@@ -82,36 +74,25 @@ abbrev pub may_share : Declared → Declared → Bool
 may_share (OutputPort m) (MadeStream n) = true
 may_share d e = false
 
-abbrev pub is_declared : List Declared → Declared → Bool
-is_declared before d = list_any (λ e. is_same (declared_name e) (declared_name d) && not (may_share e d)) before
-
 -- whether the first of these ports stands before the first of those
 abbrev pub stand_before : List HeadPort → List HeadPort → Bool
 stand_before (p ∷ ps) (q ∷ qs) = nat_lt p.name.at q.name.at
 stand_before ps qs = false
 
--- the ports of a head, in the order of the text
-abbrev pub head_names : Composite → List Declared
-head_names c =
+-- the ports of the head, in the order of the text, and then the streams and aliases of the invocations
+abbrev pub graph_names : Composite → List Declared
+graph_names c =
     let outputs = map (λ p. OutputPort p.name) c.outputs in
     let inputs = map (λ p. InputPort p.name) c.inputs in
-    if stand_before c.inputs c.outputs then inputs ++ outputs else outputs ++ inputs
+    (if stand_before c.inputs c.outputs then inputs ++ outputs else outputs ++ inputs)
+    ++ flat_map (λ i. map (λ o. MadeStream o.name) i.outputs ++ map Alias (option_to_list i.alias)) c.graph
 
-abbrev pub invocation_names : Invocation → List Declared
-invocation_names i = map (λ o. MadeStream o.name) i.outputs ++ map Alias (option_to_list i.alias)
-
-abbrev pub graph_names : Composite → List Declared
-graph_names c = head_names c ++ flat_map invocation_names c.graph
-
--- the repeated ones of its three sets
-abbrev pub repeated_in_composite : Composite → List Name
-repeated_in_composite c =
-    map declared_name (repeated is_declared (graph_names c))
+-- the repeated ones of a composite's three sets
+abbrev pub repeated_in_definition : Definition → List Name
+repeated_in_definition (D.Composite c) =
+    map declared_name (repeated (λ before d. list_any (λ e. is_same (declared_name e) (declared_name d) && not (may_share e d)) before) (graph_names c))
     ++ repeated_names (map (λ t. t.name) c.types)
     ++ repeated_names (map (λ p. p.name) c.parameters)
-
-abbrev pub repeated_in_definition : Definition → List Name
-repeated_in_definition (D.Composite c) = repeated_in_composite c
 repeated_in_definition d = []
 
 -- ---- sets of names within types and statements
@@ -137,9 +118,6 @@ abbrev pub kind_sets : ShapeKind → Sets
 kind_sets (H.Type t) = type_sets t
 kind_sets (H.Attributes attributes) = attribute_sets attributes
 
-abbrev pub shape_sets : Shape → Sets
-shape_sets h = kind_sets h.what
-
 -- a statement: the variable that it declares, where it does, and the sets within it
 pub record Scoped : Type 0 where
   pub own : Option Name
@@ -160,31 +138,22 @@ level_statement (Z.While c s) = scoped s.what.sets
 level_statement (Z.For a e s) = scoped (type_sets a.kind ++ s.what.sets)
 level_statement _ = scoped []
 
-abbrev pub statement_scoped : StmtKind → Scoped
-statement_scoped s = fold-StmtKind Scoped level_statement s
-
 abbrev pub block_sets : List Stmt → Sets
-block_sets ss = block_of (map (λ s. statement_scoped s.what) ss)
-
-abbrev pub variable_sets : List Declaration → Sets
-variable_sets ds = map (λ d. d.name) ds ∷ flat_map (λ d. type_sets d.kind) ds
+block_sets ss = block_of (map (λ s. fold-StmtKind Scoped level_statement s.what) ss)
 
 abbrev pub logic_sets : Logic → Sets
-logic_sets l = variable_sets l.state ++ flat_map (λ h. block_sets h.what.body) l.handlers
+logic_sets l = (map (λ d. d.name) l.state ∷ flat_map (λ d. type_sets d.kind) l.state) ++ flat_map (λ h. block_sets h.what.body) l.handlers
 
 abbrev pub invocation_sets : Invocation → Sets
-invocation_sets i = flat_map (λ o. shape_sets o.shape) i.outputs ++ option_map_or (λ l. logic_sets l.what) i.clauses.logic []
-
-abbrev pub port_sets : HeadPort → Sets
-port_sets p = option_map_or shape_sets p.shape []
+invocation_sets i = flat_map (λ o. kind_sets o.shape.what) i.outputs ++ option_map_or (λ l. logic_sets l.what) i.clauses.logic []
 
 abbrev pub definition_sets : Definition → Sets
-definition_sets (D.Type t) = shape_sets t.shape
+definition_sets (D.Type t) = kind_sets t.shape.what
 definition_sets (D.Function f) = option_map_or type_sets f.result [] ++ attribute_sets f.parameters ++ block_sets f.body
 definition_sets (D.Composite c) =
-    flat_map port_sets c.outputs ++ flat_map port_sets c.inputs
+    flat_map (λ p. option_map_or (λ h. kind_sets h.what) p.shape []) c.outputs ++ flat_map (λ p. option_map_or (λ h. kind_sets h.what) p.shape []) c.inputs
     ++ flat_map (λ p. type_sets p.kind) c.parameters
-    ++ flat_map (λ t. shape_sets t.shape) c.types
+    ++ flat_map (λ t. kind_sets t.shape.what) c.types
     ++ flat_map invocation_sets c.graph
 
 -- ---- the first that stands twice
@@ -194,16 +163,13 @@ abbrev pub first_in_text : List Name → Option Name
 first_in_text [] = None
 first_in_text (n ∷ ns) = Some (option_map_or (λ m. if nat_lt m.at n.at then m else n) (first_in_text ns) n)
 
--- first the definitions, then the sets of each composite, and then all sets within types and statements
-abbrev pub repeated_in_unit : List Definition → List Name
-repeated_in_unit unit =
-    repeated_definitions unit
-    ++ flat_map repeated_in_definition unit
-    ++ option_to_list (first_in_text (flat_map repeated_names (flat_map definition_sets unit)))
-
 abbrev pub first_of : {A : Type 0} → List A → Option A
 first_of [] = None
 first_of (x ∷ xs) = Some x
 
+-- the first name that stands again: of the definitions, then in the sets of each composite, and then in all sets within types and statements
 abbrev pub declared_twice : List Definition → Option Name
-declared_twice unit = first_of (repeated_in_unit unit)
+declared_twice unit =
+    first_of (map definition_name (repeated (λ before d. is_built_in d || list_any (λ e. is_same (definition_name e) (definition_name d)) before) unit)
+    ++ flat_map repeated_in_definition unit
+    ++ option_to_list (first_in_text (flat_map repeated_names (flat_map definition_sets unit))))

@@ -38,13 +38,11 @@ composite_of unit e = slice_get (composites unit) e.composite
 
 -- the invocation at a site
 abbrev pub invocation_at : List Definition → List Expansion → Site → Option Invocation
-invocation_at unit expansions s =
-    option_and_then (λ c. slice_get c.graph s.invocation) (option_and_then (composite_of unit) (slice_get expansions s.expansion))
+invocation_at unit expansions s = option_and_then (λ c. slice_get c.graph s.invocation) (option_and_then (composite_of unit) (slice_get expansions s.expansion))
 
 -- the arguments that an expansion has; the main one has none
 abbrev pub arguments_of : List Definition → List Expansion → Expansion → List Parameter
-arguments_of unit expansions e =
-    option_map_or (λ i. i.clauses.parameters) (option_and_then (invocation_at unit expansions) e.site) []
+arguments_of unit expansions e = option_map_or (λ i. i.clauses.parameters) (option_and_then (invocation_at unit expansions) e.site) []
 
 abbrev pub heads_of : List Definition → Expansion → List CompositeParameter
 heads_of unit e = option_map_or (λ c. c.parameters) (composite_of unit e) []
@@ -64,18 +62,11 @@ level_target parameter e _ = Here e
 abbrev pub target : (List ℕ → Target) → Expr → Target
 target parameter e = level_target parameter e (out-ExprKind e.what)
 
-abbrev pub argument_or : Option Expr → Target → Target
-argument_or (Some e) other = Outside e
-argument_or None other = other
-
 -- a parameter: its argument, or else its default. Defaults are followed at most this number of times
 abbrev pub parameter_target : ℕ → List CompositeParameter → List Parameter → List ℕ → Target
 parameter_target zero parameters arguments name = Nowhere
-parameter_target (suc count) parameters arguments name =
-    argument_or (value_named arguments name) (option_map_or (target (parameter_target count parameters arguments)) (default_named parameters name) Nowhere)
-
-abbrev pub target_in : List Definition → List Expansion → Expansion → Expr → Target
-target_in unit expansions x e = target (parameter_target (length (heads_of unit x)) (heads_of unit x) (arguments_of unit expansions x)) e
+parameter_target (suc count) parameters arguments name = option_map_or (λ e. Outside e) (value_named arguments name)
+    (option_map_or (target (parameter_target count parameters arguments)) (default_named parameters name) Nowhere)
 
 abbrev pub here_or : (Expr → Option Expr) → Target → Option Expr
 here_or outside (Here e) = Some e
@@ -87,8 +78,8 @@ here_or outside Nowhere = None
 abbrev pub followed_within : ℕ → List Definition → List Expansion → ℕ → Expr → Option Expr
 followed_within zero unit expansions number e = None
 followed_within (suc count) unit expansions number e =
-    option_and_then (λ x. here_or (λ argument. option_and_then (λ s. followed_within count unit expansions s.expansion argument) x.site) (target_in unit expansions x e))
-    (slice_get expansions number)
+    option_and_then (λ x. here_or (λ argument. option_and_then (λ s. followed_within count unit expansions s.expansion argument) x.site)
+    (target (parameter_target (length (heads_of unit x)) (heads_of unit x) (arguments_of unit expansions x)) e)) (slice_get expansions number)
 
 abbrev pub followed : List Definition → List Expansion → ℕ → Expr → Option Expr
 followed unit expansions number e = followed_within (length expansions) unit expansions number e

@@ -1,7 +1,7 @@
 -- The values of typed expressions: of a code over names, where each name has a value. Operands are evaluated from left to
 -- right, `&& || ? :` evaluate only what they need, the first fault counts, and each call of a function takes one of the
 -- turns.
-use Rattle.std.specs.Prelude.{ℕ, zero, suc, ◌==◌, Bool, true, false, if◌then◌else◌, not, List, [], ◌∷◌, length, Option, None, Some, slice_get}
+use Rattle.std.specs.Prelude.{ℕ, zero, suc, ◌==◌, Bool, true, false, if◌then◌else◌, not, List, [], ◌∷◌, map, length, Option, None, Some, slice_get}
 use Rattle.std.specs.List.{fold}
 use Rattle.std.specs.Option.{option_map, option_and_then}
 use Rattle.spl_value.specs.declared.value.Value.{Value}
@@ -23,8 +23,8 @@ use Rattle.spl_tree.specs.declared.code.Marker.{Marker}
 use Rattle.spl_tree.specs.declared.code.Marker.TheVariants as M
 use Rattle.language_model.specs.declared.env.Env.{Env}
 use Rattle.language_model.specs.Outcomes.{Outcome, Done, followed, need, settled, enter}
-use Rattle.language_model.specs.BuiltInCalls.{built_in_of}
-use Rattle.language_model.specs.Operators.{binary_of, unary_of, level_member, level_element, level_at_key, truth_of}
+use Rattle.language_model.specs.BuiltInCalls.{level_call}
+use Rattle.language_model.specs.Operators.{binary_of, level_unary, level_member, level_element, level_at_key, level_truth}
 
 -- ---- where an expression is evaluated
 
@@ -43,8 +43,8 @@ Calls = ℕ → List Value → ℕ → Outcome Value
 
 -- ---- rows of expressions
 
--- their values, from left to right
-abbrev pub all_of : {N : Type 0} → List (Meaning N) → World N → ℕ → Outcome (List Value)
+-- their values, or what else each of a row gives in one world or state, from left to right
+abbrev pub all_of : {W A : Type 0} → List (W → ℕ → Outcome A) → W → ℕ → Outcome (List A)
 all_of [] w turns = Done [] turns
 all_of (m ∷ ms) w turns = followed (m w turns) (λ v turns. followed (all_of ms w turns) (λ vs turns. Done (v ∷ vs) turns))
 
@@ -52,10 +52,6 @@ abbrev pub pairs_of : {N : Type 0} → List (Meaning N × Meaning N) → World N
 pairs_of [] w turns = Done [] turns
 pairs_of (m ∷ ms) w turns =
     followed (m.0 w turns) (λ k turns. followed (m.1 w turns) (λ v turns. followed (pairs_of ms w turns) (λ ps turns. Done ((k, v) ∷ ps) turns)))
-
--- the map of pairs in this order: of those with one key the last counts
-abbrev pub map_of : List (Value × Value) → List (Value × Value)
-map_of = fold (λ ps p. pairs_put ps p.0 p.1) []
 
 -- values with their places in a tuple
 abbrev pub fields_of : {N : Type 0} → List (ℕ × Meaning N) → World N → ℕ → Outcome (List (ℕ × Value))
@@ -92,11 +88,11 @@ taken_all (t ∷ ts) v w turns = followed (taken t v w turns) (λ u turns. taken
 -- the outermost first
 abbrev pub unaries_of : List UnaryCode → Value → ℕ → Outcome Value
 unaries_of [] v turns = Done v turns
-unaries_of (op ∷ ops) v turns = followed (unaries_of ops v turns) (λ u turns. settled (unary_of op u) turns)
+unaries_of (op ∷ ops) v turns = followed (unaries_of ops v turns) (λ u turns. settled (level_unary op (out-Value u)) turns)
 
 -- whether an expression is true
 abbrev pub truth : {N : Type 0} → Meaning N → World N → ℕ → Outcome Bool
-truth m w turns = followed (m w turns) (λ v turns. need (truth_of v) (λ b. Done b turns))
+truth m w turns = followed (m w turns) (λ v turns. need (level_truth (out-Value v)) (λ b. Done b turns))
 
 abbrev pub binary : {N : Type 0} → BinaryCode → Meaning N → Meaning N → Meaning N
 binary D.And m n w turns = followed (truth m w turns) (λ b turns. if b then n w turns else Done (V.Bool false) turns)
@@ -110,17 +106,18 @@ same_marker _ _ = false
 
 -- ---- expressions
 
+-- of the pairs of a map with one key the last counts
 abbrev pub level_value : {N : Type 0} → Calls → Code-F N (Meaning N) → Meaning N
 level_value calls (C.Literal v) w turns = Done v turns
 level_value calls (C.Name n) w turns = need (w.value_of n) (λ v. Done v turns)
 level_value calls (C.List ms) w turns = followed (all_of ms w turns) (λ vs turns. Done (V.List vs) turns)
-level_value calls (C.Map ms) w turns = followed (pairs_of ms w turns) (λ ps turns. Done (V.Map (map_of ps)) turns)
+level_value calls (C.Map ms) w turns = followed (pairs_of ms w turns) (λ qs turns. Done (V.Map (fold (λ ps p. pairs_put ps p.0 p.1) [] qs)) turns)
 level_value calls (C.Tuple ms) w turns = followed (fields_of ms w turns) (λ fs turns. need (tuple_of fs) (λ vs. Done (V.Tuple vs) turns))
 level_value calls (C.Select m ts) w turns = followed (m w turns) (λ v turns. taken_all ts v w turns)
 level_value calls (C.Unary ops m) w turns = followed (m w turns) (λ v turns. unaries_of ops v turns)
 level_value calls (C.Binary op m n) w turns = binary op m n w turns
 level_value calls (C.Conditional c m n) w turns = followed (truth c w turns) (λ b turns. if b then m w turns else n w turns)
-level_value calls (C.BuiltIn call ms) w turns = followed (all_of ms w turns) (λ vs turns. settled (built_in_of call vs) turns)
+level_value calls (C.BuiltIn call ms) w turns = followed (all_of ms w turns) (λ vs turns. settled (level_call call (map out-Value vs)) turns)
 level_value calls (C.Call i ms) w turns = followed (all_of ms w turns) (λ vs turns. enter turns (λ turns. calls i vs turns))
 level_value calls (C.IsMarker m) w turns = need w.marker (λ n. Done (V.Bool (same_marker m n)) turns)
 level_value calls (C.IsNotMarker m) w turns = need w.marker (λ n. Done (V.Bool (not (same_marker m n))) turns)

@@ -16,8 +16,9 @@ use Rattle.spl_tree.specs.declared.code.BinaryCode.{BinaryCode}
 use Rattle.spl_tree.specs.declared.code.BuiltIn.{BuiltIn}
 use Rattle.spl_tree.specs.declared.code.Marker.{Marker}
 use Rattle.language_model.specs.Outcomes.{Outcome, Done, followed, need, settled, enter}
-use Rattle.language_model.specs.BuiltInCalls.{built_in_of}
-use Rattle.language_model.specs.Evaluation.{World, Meaning, Calls, all_of, pairs_of, map_of, fields_of, tuple_of, taken_all, unaries_of, truth, binary, same_marker, level_value, code_value}
+use Rattle.language_model.specs.parts.BuiltInCalls.{built_in_of}
+use Rattle.language_model.specs.Evaluation.{World, Meaning, Calls, all_of, pairs_of, fields_of, tuple_of, taken_all, unaries_of, truth, binary, same_marker, level_value, code_value}
+use Rattle.language_model.specs.parts.Evaluation.{map_of}
 
 module _ {N : Type 0} (calls : Calls) where
   -- ---- rows of codes

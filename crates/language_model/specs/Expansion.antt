@@ -1,6 +1,6 @@
 -- The operators and expansions that remain of a unit once each invocation of a composite is replaced by its body, or the first
 -- refusal, invocation by invocation.
-use Rattle.std.specs.Prelude.{ℕ, zero, suc, ◌^◌, ◌==◌, nat_lt, nat_le, Bool, ◌&&◌, List, [], ◌∷◌, ◌++◌, map, flat_map, length, sum_by, if◌then◌else◌, codes, Option, Some, None, slice_get, Result, Ok, Err}
+use Rattle.std.specs.Prelude.{ℕ, zero, suc, ◌^◌, ◌==◌, nat_lt, nat_le, ◌&&◌, List, [], ◌∷◌, ◌++◌, map, flat_map, length, sum_by, if◌then◌else◌, codes, Option, Some, None, slice_get, Result, Ok, Err}
 use Rattle.std.specs.Option.{option_map, option_map_or}
 use Rattle.std.specs.Str.{bytes_eq}
 use Rattle.spl_tree.specs.declared.expression.Placed.{Placed}
@@ -9,7 +9,6 @@ use Rattle.spl_tree.specs.declared.graph.Site.{Site}
 use Rattle.spl_tree.specs.declared.unit.Composite.{Composite}
 use Rattle.spl_tree.specs.declared.unit.Definition.{Definition}
 use Rattle.spl_tree.specs.declared.unit.Invocation.{Invocation}
-use Rattle.spl_tree.specs.declared.unit.OutputStream.{OutputStream}
 use Rattle.spl_tree.specs.Trees.{placed}
 use Rattle.language_model.specs.declared.expansion.ExpansionRefusal.{ExpansionRefusal}
 use Rattle.language_model.specs.declared.expansion.ExpansionRefusal.TheVariants as R
@@ -46,18 +45,9 @@ pub record Opened : Type 0 where
   pub prefix : List ℕ
   pub body : Inlined
 
-abbrev pub first_output : List OutputStream → List ℕ
-first_output [] = []
-first_output (o ∷ os) = o.name.what
-
 -- the alias or else the first output stream
 abbrev pub invocation_name : Invocation → List ℕ
-invocation_name i = option_map_or (λ n. n.what) i.alias (first_output i.outputs)
-
--- the first output stream or else the alias
-abbrev pub label_of : Invocation → List OutputStream → List ℕ
-label_of i [] = invocation_name i
-label_of i (o ∷ os) = o.name.what
+invocation_name i = option_map_or (λ n. n.what) i.alias (option_map_or (λ o. o.name.what) (first_of i.outputs) [])
 
 -- the place of a name in a list
 abbrev pub place_of : List ℕ → List (List ℕ) → Option ℕ
@@ -72,79 +62,47 @@ port_names es s k = option_map_or (λ e. option_map_or (names_of_port k) (slice_
 
 -- what an input of a head takes: what the names of that port do where the composite is invoked
 abbrev pub input_sources : (ℕ → List ℕ → List Source) → List Inlined → Option Site → ℕ → List Source
-input_sources outside es None k = []
-input_sources outside es (Some s) k = flat_map (λ n. outside s.expansion n.what) (port_names es s k)
+input_sources outside es site k = option_map_or (λ s. flat_map (λ n. outside s.expansion n.what) (port_names es s k)) site []
 
--- what a name takes: the stream that the graph makes, or else what the input of that name does
-abbrev pub own_or_input : (ℕ → List ℕ → List Source) → List Inlined → ℕ → Inlined → List ℕ → Option ℕ → List Source
-own_or_input outside es number e name (Some k) = source number k ∷ []
-own_or_input outside es number e name None = option_map_or (input_sources outside es e.site) (place_of name (input_names e.composite.what)) []
-
--- inputs are followed outwards at most this number of times
+-- what a name takes: the stream that the graph makes, or else what the input of that name does. Inputs are followed outwards at most this
+-- number of times
 abbrev pub taken_in : ℕ → List Inlined → ℕ → List ℕ → List Source
 taken_in zero es number name = []
 taken_in (suc count) es number name =
-    option_map_or (λ e. own_or_input (taken_in count es) es number e name (place_of name (stream_names e.composite.what))) (slice_get es number) []
+    option_map_or (λ e. option_map_or (λ k. source number k ∷ []) (place_of name (stream_names e.composite.what))
+    (option_map_or (input_sources (taken_in count es) es e.site) (place_of name (input_names e.composite.what)) [])) (slice_get es number) []
 
 -- what a name takes in the expansion at a number
 abbrev pub sources_of : List Inlined → ℕ → List ℕ → List Source
 sources_of es number name = taken_in (length es) es number name
 
--- what each input port of an invocation takes
-abbrev pub ports_of : List Inlined → ℕ → Invocation → List (List Source)
-ports_of es number i = map (λ q. flat_map (λ n. sources_of es number n.what) q.streams) i.inputs
-
-abbrev pub site_in : Opened → ℕ → Site
-site_in p number = record { expansion = p.number; invocation = number }
-
 -- ---- operators
 
+-- the operator of an invocation. Its label is the first output stream or else the alias, and an input port takes what its names do
 abbrev pub operation : List Inlined → Opened → ℕ → Invocation → OpKind → Operation
 operation es p number i kind =
     record {
       name = p.prefix ++ invocation_name i;
-      label = p.prefix ++ label_of i i.outputs;
+      label = p.prefix ++ option_map_or (λ o. o.name.what) (first_of i.outputs) (invocation_name i);
       kind = kind;
-      ins = ports_of es p.number i;
+      ins = map (λ q. flat_map (λ n. sources_of es p.number n.what) q.streams) i.inputs;
       outputs = length i.outputs;
-      site = site_in p number;
+      site = record { expansion = p.number; invocation = number };
       at = i.at;
     }
 
--- how many streams the ports of an operator take
-abbrev pub connections_of : Operation → ℕ
-connections_of op = sum_by length op.ins
-
--- at most 256 operators, and fewer than 2^30 connections
-abbrev pub is_within : List Operation → Bool
-is_within ops = nat_le (length ops) 256 && nat_lt (sum_by connections_of ops) (2 ^ 30)
-
-abbrev pub with_operation : Operation → Made → Made
-with_operation op made = record { ops = made.ops ++ op ∷ []; expansions = made.expansions }
-
+-- there are at most 256 operators, and their ports take fewer than 2^30 streams together
 abbrev pub if_within : ℕ → Made → Expanded Made
-if_within at made = if is_within made.ops then Ok made else Err (R.TooMany at)
+if_within at made = if nat_le (length made.ops) 256 && nat_lt (sum_by (λ op. sum_by length op.ins) made.ops) (2 ^ 30) then Ok made else Err (R.TooMany at)
 
 -- ---- composites
 
 -- the body of the composite that an invocation invokes, at its site
 abbrev pub inlined : Opened → ℕ → At Composite → Inlined
-inlined p number c = record { composite = c; site = Some (site_in p number) }
+inlined p number c = record { composite = c; site = Some (record { expansion = p.number; invocation = number }) }
 
 abbrev pub opened_in : Opened → ℕ → Invocation → At Composite → Made → Opened
-opened_in p number i c made =
-    record {
-      number = length made.expansions;
-      prefix = p.prefix ++ invocation_name i ++ codes ".";
-      body = inlined p number c;
-    }
-
-abbrev pub with_expansion : Inlined → Made → Made
-with_expansion e made = record { ops = made.ops; expansions = made.expansions ++ e ∷ [] }
-
--- an expansion that makes no operator isn't kept
-abbrev pub if_grown : Made → Made → Made
-if_grown before made = if length before.ops == length made.ops then before else made
+opened_in p number i c made = record { number = length made.expansions; prefix = p.prefix ++ invocation_name i ++ codes "."; body = inlined p number c }
 
 -- ---- the work
 
@@ -152,22 +110,22 @@ if_grown before made = if length before.ops == length made.ops then before else 
 abbrev pub Expands : Type 0
 Expands = Opened → Made → Expanded Made
 
+-- an operator is put after the others, and an expansion that makes no operator isn't kept
 abbrev pub expanded_target : Expands → Opened → ℕ → Invocation → Target → Made → Expanded Made
-expanded_target expands p number i (Operator kind) made = if_within i.at (with_operation (operation made.expansions p number i kind) made)
+expanded_target expands p number i (Operator kind) made =
+    if_within i.at (record { ops = made.ops ++ operation made.expansions p number i kind ∷ []; expansions = made.expansions })
 expanded_target expands p number i (Body c) made =
     if fits_head c.what i
-    then after (expands (opened_in p number i c made) (with_expansion (inlined p number c) made)) (λ m. Ok (if_grown made m))
+    then after (expands (opened_in p number i c made) (record { ops = made.ops; expansions = made.expansions ++ inlined p number c ∷ [] }))
+    (λ m. Ok (if length made.ops == length m.ops then made else m))
     else Err (R.Ports (placed i.at i.operator.what))
 expanded_target expands p number i Nothing made = Err (R.Unknown i.operator)
 
 -- what isn't declared is refused first
-abbrev pub if_declared : Option (Placed (List ℕ)) → Expanded Made → Expanded Made
-if_declared None found = found
-if_declared (Some n) found = Err (R.Unknown n)
-
 abbrev pub expanded_invocation : Expands → List Definition → Opened → ℕ → Invocation → Made → Expanded Made
 expanded_invocation expands unit p number i made =
-    if_declared (first_of (undeclared unit p.body.composite.what i)) (expanded_target expands p number i (target_of unit i.operator.what) made)
+    option_map_or (λ n. Err (R.Unknown n)) (first_of (undeclared unit p.body.composite.what i))
+    (expanded_target expands p number i (target_of unit i.operator.what) made)
 
 -- the invocations of a graph one after another, from a number on
 abbrev pub expanded_graph : Expands → List Definition → Opened → ℕ → List Invocation → Made → Expanded Made
@@ -186,6 +144,4 @@ main_body main = record { composite = main; site = None }
 -- where no composite reaches itself, they nest no deeper than there are composites
 abbrev pub expanded_main : List Definition → At Composite → Expanded Made
 expanded_main unit main =
-    expanded (length (composites unit)) unit
-    (record { number = 0; prefix = []; body = main_body main })
-    (record { ops = []; expansions = main_body main ∷ [] })
+    expanded (length (composites unit)) unit (record { number = 0; prefix = []; body = main_body main }) (record { ops = []; expansions = main_body main ∷ [] })

@@ -1,10 +1,8 @@
 -- The graph of a unit without composites, or the first refusal on the way to it.
-use Rattle.std.specs.Prelude.{◌≡◌, ℕ, List, [], map, flat_map, length, Option, Some, None, slice_get, Ok, Err}
+use Rattle.std.specs.Prelude.{◌≡◌, ℕ, List, [], map, flat_map, length, Some, None, slice_get, Ok, Err}
 use Rattle.std.specs.Option.{option_map_or}
 use Rattle.spl_tree.specs.declared.expression.Placed.{Placed}
-use Rattle.spl_tree.specs.declared.graph.Expansion.{Expansion}
 use Rattle.spl_tree.specs.declared.graph.Graph.{Graph}
-use Rattle.spl_tree.specs.declared.graph.Op.{Op}
 use Rattle.spl_tree.specs.declared.unit.Composite.{Composite}
 use Rattle.spl_tree.specs.declared.unit.Definition.{Definition}
 use Rattle.spl_tree.specs.Trees.{placed}
@@ -15,46 +13,24 @@ use Rattle.language_model.specs.Expansion.{Made, Expanded, after, expanded_main}
 use Rattle.language_model.specs.Numbering.{ops_from, streams_from, expansions_from}
 use Rattle.language_model.specs.Recursion.{IsRecursive, IsNotRecursive}
 use Rattle.language_model.specs.Scopes.{At}
-use Rattle.language_model.specs.SinkFiles.{OpFile, op_file, is_had}
+use Rattle.language_model.specs.SinkFiles.{op_file, is_had}
 use Rattle.language_model.specs.Taking.{taken, first_untaken}
 
 -- ---- loops
 
--- the operator at a number, at its invocation, by its first stream
-abbrev pub label_at : Made → ℕ → Placed (List ℕ)
-label_at made n = option_map_or (λ op. placed op.at op.label) (slice_get made.ops n) (placed 0 [])
-
-abbrev pub graph_of : Made → List ℕ → Graph
-graph_of made topo =
-    record {
-      ops = ops_from made 0 made.ops;
-      streams = streams_from 0 made.ops;
-      expansions = expansions_from made 0 made.expansions;
-      topo = topo;
-    }
-
--- the first operator that can't be taken is refused
-abbrev pub if_all_taken : Made → List ℕ → Option ℕ → Expanded Graph
-if_all_taken made topo None = Ok (graph_of made topo)
-if_all_taken made topo (Some n) = Err (R.Loop (label_at made n))
-
+-- the graph, or else the first operator that can't be taken is refused, at its invocation, by its first stream
 abbrev pub ordered : Made → Expanded Graph
 ordered made =
     let topo = taken (streams_from 0 made.ops) (ops_from made 0 made.ops) in
-    if_all_taken made topo (first_untaken topo 0 (length made.ops))
+    option_map_or (λ n. Err (R.Loop (option_map_or (λ o. placed o.at o.label) (slice_get made.ops n) (placed 0 [])))) (first_untaken topo 0 (length made.ops))
+    (Ok (record { ops = ops_from made 0 made.ops; streams = streams_from 0 made.ops; expansions = expansions_from made 0 made.expansions; topo = topo }))
 
 -- ---- files
 
--- the files of sources and sinks that are in use already
-abbrev pub files_had : List Definition → List (List ℕ) → List Expansion → List Op → List OpFile
-files_had unit names expansions ops = repeated (is_had names) (flat_map (op_file unit expansions) ops)
-
-abbrev pub if_none_had : Graph → Option (Placed (List ℕ)) → Expanded Graph
-if_none_had g None = Ok g
-if_none_had g (Some file) = Err (R.SameFile file)
-
+-- the first file of a source or sink that is in use already is refused
 abbrev pub with_own_files : List Definition → List (List ℕ) → Graph → Expanded Graph
-with_own_files unit names g = if_none_had g (first_of (map (λ f. f.file) (files_had unit names g.expansions g.ops)))
+with_own_files unit names g =
+    option_map_or (λ file. Err (R.SameFile file)) (first_of (map (λ f. f.file) (repeated (is_had names) (flat_map (op_file unit g.expansions) g.ops)))) (Ok g)
 
 -- ---- the whole
 

@@ -1,13 +1,12 @@
 -- What the names in the graph of a composite mean, and how an invocation is refused by what it names and by the head
 -- that it has to fit.
-use Rattle.std.specs.Prelude.{ℕ, ◌==◌, Bool, true, false, ◌&&◌, ◌||◌, not, List, [], ◌∷◌, ◌++◌, map, flat_map, filter, length, if◌then◌else◌, Option, Some, None, is_some, is_none}
+use Rattle.std.specs.Prelude.{ℕ, ◌==◌, Bool, true, false, ◌&&◌, ◌||◌, not, List, [], ◌∷◌, ◌++◌, map, flat_map, filter, length, if◌then◌else◌, is_some, is_none}
 use Rattle.std.specs.List.{list_any, list_all}
+use Rattle.std.specs.Option.{option_map_or}
 use Rattle.std.specs.Str.{bytes_eq}
 use Rattle.spl_tree.specs.declared.expression.Placed.{Placed}
 use Rattle.spl_tree.specs.declared.graph.OpKind.{OpKind}
-use Rattle.spl_tree.specs.declared.unit.Clauses.{Clauses}
 use Rattle.spl_tree.specs.declared.unit.Composite.{Composite}
-use Rattle.spl_tree.specs.declared.unit.CompositeParameter.{CompositeParameter}
 use Rattle.spl_tree.specs.declared.unit.Definition.{Definition}
 use Rattle.spl_tree.specs.declared.unit.Invocation.{Invocation}
 use Rattle.spl_tree.specs.declared.unit.Parameter.{Parameter}
@@ -25,16 +24,8 @@ pub data Target : Type 0 where
   Body : At Composite → Target
   Nothing : Target
 
-abbrev pub operator_or_nothing : Option OpKind → Target
-operator_or_nothing (Some kind) = Operator kind
-operator_or_nothing None = Nothing
-
-abbrev pub body_or_operator : List ℕ → Option (At Composite) → Target
-body_or_operator name (Some c) = Body c
-body_or_operator name None = operator_or_nothing (kind_named name)
-
 abbrev pub target_of : List Definition → List ℕ → Target
-target_of unit name = body_or_operator name (composite_named unit name)
+target_of unit name = option_map_or Body (composite_named unit name) (option_map_or Operator (kind_named name) Nothing)
 
 -- the streams that the invocations of a graph make, in the order of the text
 abbrev pub stream_names : Composite → List (List ℕ)
@@ -46,10 +37,6 @@ input_names c = map (λ p. p.name.what) c.inputs
 abbrev pub is_among : List ℕ → List (List ℕ) → Bool
 is_among name names = list_any (λ n. bytes_eq n name) names
 
--- a stream that an invocation in the composite may read
-abbrev pub is_readable : Composite → List ℕ → Bool
-is_readable c name = is_among name (stream_names c) || is_among name (input_names c)
-
 abbrev pub is_parameter : Composite → List ℕ → Bool
 is_parameter c name = is_among name (map (λ p. p.name.what) c.parameters)
 
@@ -59,36 +46,27 @@ abbrev pub is_nothing : Target → Bool
 is_nothing Nothing = true
 is_nothing target = false
 
--- the names of an invocation that aren't declared: that of the operator, the streams that it reads, and the `$` parameters in
--- its clauses, in this order
+-- the names of an invocation that aren't declared: that of the operator, the streams that it reads, each of which an invocation of the
+-- composite has to make or an input has to have, and the `$` parameters in its clauses, in this order
 abbrev pub undeclared : List Definition → Composite → Invocation → List (Placed (List ℕ))
 undeclared unit c i =
     (if is_nothing (target_of unit i.operator.what) then i.operator ∷ [] else [])
-    ++ filter (λ n. not (is_readable c n.what)) (flat_map (λ p. p.streams) i.inputs)
+    ++ filter (λ n. not (is_among n.what (stream_names c) || is_among n.what (input_names c))) (flat_map (λ p. p.streams) i.inputs)
     ++ filter (λ n. not (is_parameter c n.what)) (dollars (clause_mentions i.clauses))
 
 -- ---- heads
 
--- an argument has one value, and the head has a parameter of its name
-abbrev pub is_argument : Composite → Parameter → Bool
-is_argument c p = (length p.values == 1) && is_parameter c p.name.what
-
--- a parameter has a default or an argument
-abbrev pub has_value : List Parameter → CompositeParameter → Bool
-has_value arguments p = is_some p.default || list_any (λ a. bytes_eq a.name.what p.name.what) arguments
-
--- each argument fits, none is given twice, and none is missing
+-- each argument has one value, and the head has a parameter of its name; no argument is given twice; and each parameter has a default or an
+-- argument
 abbrev pub fit_parameters : Composite → List Parameter → Bool
 fit_parameters c arguments =
-    list_all (is_argument c) arguments && is_empty (repeated_names (map (λ a. a.name) arguments)) && list_all (has_value arguments) c.parameters
+    list_all (λ p. (length p.values == 1) && is_parameter c p.name.what) arguments && is_empty (repeated_names (map (λ a. a.name) arguments))
+    && list_all (λ p. is_some p.default || list_any (λ a. bytes_eq a.name.what p.name.what) arguments) c.parameters
 
--- beside arguments an invocation of a composite has at most `config`
-abbrev pub has_arguments_alone : Clauses → Bool
-has_arguments_alone x = is_none x.logic && is_none x.window && is_none x.output
-
--- an invocation has as many ports as the head, and arguments for its parameters; and the composite makes each of its outputs
+-- an invocation has as many ports as the head, arguments for its parameters, and beside them at most `config`; and the composite makes each
+-- of its outputs
 abbrev pub fits_head : Composite → Invocation → Bool
 fits_head c i =
     (length i.outputs == length c.outputs) && (length i.inputs == length c.inputs)
-    && has_arguments_alone i.clauses && fit_parameters c i.clauses.parameters
+    && (is_none i.clauses.logic && is_none i.clauses.window && is_none i.clauses.output) && fit_parameters c i.clauses.parameters
     && list_all (λ p. is_among p.name.what (stream_names c)) c.outputs

@@ -38,9 +38,9 @@ use Rattle.language_model.specs.Checking.{fit_ports, has_text_form}
 use Rattle.language_model.specs.CodeFits.{CodeFits, FieldsFit, OneEach}
 use Rattle.language_model.specs.FitLaws.{no_names}
 use Rattle.language_model.specs.FlatLaws.{IsMadeAs, IsTopological}
-use Rattle.language_model.specs.Literals.{is_file_name}
-use Rattle.language_model.specs.LogicTyping.{is_plain}
-use Rattle.language_model.specs.ParameterTyping.{level_key}
+use Rattle.language_model.specs.parts.Literals.{is_file_name}
+use Rattle.language_model.specs.parts.LogicTyping.{is_plain}
+use Rattle.language_model.specs.parts.ParameterTyping.{level_key}
 use Rattle.language_model.specs.Policies.{most_tuples}
 use Rattle.language_model.specs.StreamTypes.{Attributes}
 use Rattle.language_model.specs.Typing.{int32}

@@ -41,15 +41,9 @@ between least most = record { least = least; most = most }
 abbrev pub exactly : ℕ → PortBounds
 exactly n = between n n
 
-abbrev pub optional : List ℕ → Role → ParameterRule
-optional name role = record { name = name; role = role; presence = P.Optional }
-
-abbrev pub required : List ℕ → Role → ParameterRule
-required name role = record { name = name; role = role; presence = P.Required }
-
--- one that is required where the window is partitioned, and refused where it isn't
-abbrev pub with_partitions : List ℕ → Role → ParameterRule
-with_partitions name role = record { name = name; role = role; presence = P.WithPartitions }
+-- one with partitions is required where the window is partitioned, and refused where it isn't
+abbrev pub parameter : List ℕ → Role → Presence → ParameterRule
+parameter name role presence = record { name = name; role = role; presence = presence }
 
 -- ---- the table
 
@@ -59,19 +53,20 @@ row name inputs outputs passes_on parameters window output logic =
 
 -- the columns are those of `KindRules`, in their order
 abbrev pub rules_of : OpKind → KindRules
-rules_of O.FileSource =
-    row (codes "FileSource") (exactly 0) (exactly 1) false (required (codes "file") R.File ∷ optional (codes "format") R.Format ∷ optional (codes "parsing") R.Parsing ∷ []) None None false
-rules_of O.FileSink = row (codes "FileSink") (exactly 1) (exactly 0) false (required (codes "file") R.File ∷ optional (codes "format") R.Format ∷ []) None None false
-rules_of O.Filter = row (codes "Filter") (exactly 1) (exactly 1) true (optional (codes "filter") R.Condition ∷ []) None None false
-rules_of O.Functor = row (codes "Functor") (exactly 1) (exactly 1) false (optional (codes "filter") R.Condition ∷ []) None (Some F.Tuple) false
-rules_of O.Punctor =
-    row (codes "Punctor") (exactly 1) (exactly 1) true (required (codes "punctuation") R.Condition ∷ required (codes "position") R.Position ∷ []) None None false
-rules_of O.Split = row (codes "Split") (exactly 1) (between 1 16) true (required (codes "index") R.Index ∷ []) None None false
+rules_of O.FileSource = row (codes "FileSource") (exactly 0) (exactly 1) false (parameter (codes "file") R.File P.Required
+    ∷ parameter (codes "format") R.Format P.Optional ∷ parameter (codes "parsing") R.Parsing P.Optional ∷ []) None None false
+rules_of O.FileSink = row (codes "FileSink") (exactly 1) (exactly 0) false (parameter (codes "file") R.File P.Required
+    ∷ parameter (codes "format") R.Format P.Optional ∷ []) None None false
+rules_of O.Filter = row (codes "Filter") (exactly 1) (exactly 1) true (parameter (codes "filter") R.Condition P.Optional ∷ []) None None false
+rules_of O.Functor = row (codes "Functor") (exactly 1) (exactly 1) false (parameter (codes "filter") R.Condition P.Optional ∷ []) None (Some F.Tuple) false
+rules_of O.Punctor = row (codes "Punctor") (exactly 1) (exactly 1) true (parameter (codes "punctuation") R.Condition P.Required
+    ∷ parameter (codes "position") R.Position P.Required ∷ []) None None false
+rules_of O.Split = row (codes "Split") (exactly 1) (between 1 16) true (parameter (codes "index") R.Index P.Required ∷ []) None None false
 rules_of O.Union = row (codes "Union") (between 1 16) (exactly 1) false [] None None false
 rules_of O.Custom = row (codes "Custom") (between 1 16) (between 0 16) false [] None None true
-rules_of O.Aggregate =
-    row (codes "Aggregate") (exactly 1) (exactly 1) false (with_partitions (codes "partitionBy") R.Attributes ∷ optional (codes "groupBy") R.Attributes ∷ []) (Some W.Aggregate) (Some F.Groups) false
-rules_of O.Join = row (codes "Join") (exactly 2) (exactly 1) false (optional (codes "match") R.Condition ∷ []) (Some W.Join) (Some F.Tuple) false
+rules_of O.Aggregate = row (codes "Aggregate") (exactly 1) (exactly 1) false (parameter (codes "partitionBy") R.Attributes P.WithPartitions
+    ∷ parameter (codes "groupBy") R.Attributes P.Optional ∷ []) (Some W.Aggregate) (Some F.Groups) false
+rules_of O.Join = row (codes "Join") (exactly 2) (exactly 1) false (parameter (codes "match") R.Condition P.Optional ∷ []) (Some W.Join) (Some F.Tuple) false
 
 -- ---- the code's table
 

@@ -1,4 +1,5 @@
 pub mod steps
+pub mod parts
 pub mod Kinds
 pub mod Scopes
 pub mod After

@@ -1,6 +1,6 @@
 -- The literals of clauses. A `$` parameter means the literal that it is given, or that is its default.
-use Rattle.std.specs.Prelude.{ℕ, Bool, ◌&&◌, not, List, if◌then◌else◌, codes, Option, Some, None, Ok}
-use Rattle.std.specs.Option.{option_and_then}
+use Rattle.std.specs.Prelude.{ℕ, ◌&&◌, not, List, if◌then◌else◌, codes, Option, Some, None, Ok}
+use Rattle.std.specs.Option.{option_and_then, option_map_or}
 use Rattle.std.specs.Str.{bytes_eq, is_utf8}
 use Rattle.spl_value.specs.declared.types.SplType.TheVariants as S
 use Rattle.spl_tree.specs.declared.expression.ExprKind.{ExprKind}
@@ -19,13 +19,10 @@ abbrev pub level_number : ExprKind-F ExprKind → Option Number
 level_number (X.Number n) = Some n
 level_number _ = None
 
-abbrev pub number_of : Expr → Option Number
-number_of e = level_number (out-ExprKind e.what)
-
 -- a number literal, or a `$` parameter that fits its type and means one
 abbrev pub level_literal : Scope → (Expr → Option Expr) → Expr → ExprKind-F ExprKind → Found (Option Number)
 level_literal scope follow e (X.Number n) = after (typing scope e None) (λ t. Ok (Some n))
-level_literal scope follow e (X.Dollar name) = after (typing scope e None) (λ t. Ok (option_and_then number_of (follow e)))
+level_literal scope follow e (X.Dollar name) = after (typing scope e None) (λ t. Ok (option_and_then (λ x. level_number (out-ExprKind x.what)) (follow e)))
 level_literal scope follow e _ = Ok None
 
 abbrev pub number_literal : Scope → (Expr → Option Expr) → Expr → Found (Option Number)
@@ -34,25 +31,18 @@ number_literal scope follow e = level_literal scope follow e (out-ExprKind e.wha
 -- ---- files
 
 -- a file's name is UTF-8, not empty, and not `-`
-abbrev pub is_file_name : List ℕ → Bool
-is_file_name bytes = is_utf8 bytes && not (is_empty bytes) && not (bytes_eq bytes (codes "-"))
-
 abbrev pub file_or_mismatch : ℕ → List ℕ → Found (List ℕ)
-file_or_mismatch at bytes = if is_file_name bytes then Ok bytes else mismatch at
+file_or_mismatch at bytes = if is_utf8 bytes && not (is_empty bytes) && not (bytes_eq bytes (codes "-")) then Ok bytes else mismatch at
 
 abbrev pub level_text : ℕ → ExprKind-F ExprKind → Found (List ℕ)
 level_text at (X.Text bytes) = file_or_mismatch at bytes
 level_text at _ = mismatch at
 
-abbrev pub text_at : ℕ → Option Expr → Found (List ℕ)
-text_at at None = mismatch at
-text_at at (Some e) = level_text at (out-ExprKind e.what)
-
 -- a text literal, or a `$` parameter that is a text and means one
 abbrev pub level_file : Scope → (Expr → Option Expr) → Expr → ExprKind-F ExprKind → Found (List ℕ)
-level_file scope follow e (X.Text bytes) = file_or_mismatch e.at bytes
-level_file scope follow e (X.Dollar name) = after (typing scope e (Some S.Text)) (λ t. text_at e.at (follow e))
-level_file scope follow e _ = mismatch e.at
+level_file scope follow e (X.Dollar name) =
+    after (typing scope e (Some S.Text)) (λ t. option_map_or (λ x. level_text e.at (out-ExprKind x.what)) (follow e) (mismatch e.at))
+level_file scope follow e kind = level_text e.at kind
 
 abbrev pub file_typing : Scope → (Expr → Option Expr) → Expr → Found (List ℕ)
 file_typing scope follow e = level_file scope follow e (out-ExprKind e.what)

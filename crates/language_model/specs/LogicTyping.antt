@@ -33,8 +33,9 @@ use Rattle.language_model.specs.declared.scope.Dollar.{Dollar}
 use Rattle.language_model.specs.declared.scope.Port.{Port}
 use Rattle.language_model.specs.declared.scope.Scope.{Scope}
 use Rattle.language_model.specs.declared.scope.Typed.{Typed}
+use Rattle.language_model.specs.After.{each}
 use Rattle.language_model.specs.BodyFits.{OfHandler}
-use Rattle.language_model.specs.BodyTyping.{Setting, body_typing, first_value, variable}
+use Rattle.language_model.specs.BodyTyping.{body_typing, first_value, variable}
 use Rattle.language_model.specs.Parameters.{constant_scope}
 use Rattle.language_model.specs.Scopes.{At, dollar_of, first_from}
 use Rattle.language_model.specs.TypeNames.{Types, type_meant}
@@ -55,20 +56,14 @@ level_plain (C.Tuple fs) = list_all (λ f. f.1) fs
 level_plain (C.Unary ops x) = list_all is_minus ops && x
 level_plain _ = false
 
-abbrev pub is_plain : Code Slot → Bool
-is_plain code = fold-Code Slot Bool level_plain code
-
 -- a `$` parameter, where it means such a code. One with a refusal passes, so that the refusal is given
 abbrev pub plain_parameter : Option (Result Typed CheckRefusal) → Bool
-plain_parameter (Some (Ok t)) = is_plain t.code
+plain_parameter (Some (Ok t)) = fold-Code Slot Bool level_plain t.code
 plain_parameter _ = true
 
 abbrev pub is_negation : PrefixOperator → Bool
 is_negation P.Negate = true
 is_negation _ = false
-
-abbrev pub is_minus_prefix : Placed PrefixOperator → Bool
-is_minus_prefix p = is_negation p.what
 
 -- an expression of literals, `-`, and lists, maps and tuples of such, in parentheses or not
 abbrev pub level_state : List Dollar → ExprKind-F Bool → Bool
@@ -80,27 +75,19 @@ level_state given (X.Group e) = e.what
 level_state given (X.List es) = list_all (λ e. e.what) es
 level_state given (X.Map es) = list_all (λ e. e.0.what && e.1.what) es
 level_state given (X.Tuple fs) = list_all (λ f. f.value.what) fs
-level_state given (X.Unary ps e) = list_all is_minus_prefix ps && e.what
+level_state given (X.Unary ps e) = list_all (λ p. is_negation p.what) ps && e.what
 level_state given _ = false
-
-abbrev pub is_state_value : List Dollar → Expr → Bool
-is_state_value given e = fold-ExprKind Bool (level_state given) e.what
 
 abbrev pub state_value : List Dollar → SplType → Option Expr → Found (Code Slot)
 state_value given t None = first_value (constant_scope given) t None
 state_value given t (Some e) =
-    if is_state_value given e then first_value (constant_scope given) t (Some e) else refused E.LeftOut e.at (Some (codes "state"))
+    if fold-ExprKind Bool (level_state given) e.what then first_value (constant_scope given) t (Some e) else refused E.LeftOut e.at (Some (codes "state"))
 
 -- ---- the state
 
 abbrev pub state_variable : Types → List Dollar → Declaration → Found StateVariable
-state_variable types given d =
-    after (type_meant types d.kind) (λ t. after (state_value given t d.value) (λ code.
+state_variable types given d = after (type_meant types d.kind) (λ t. after (state_value given t d.value) (λ code.
     Ok (record { variable = variable d.mutable d.name.what t; first = code })))
-
-abbrev pub state_typing : Types → List Dollar → List Declaration → Found (List StateVariable)
-state_typing types given [] = Ok []
-state_typing types given (d ∷ ds) = after (state_variable types given d) (λ x. after (state_typing types given ds) (λ rest. Ok (x ∷ rest)))
 
 -- ---- handlers
 
@@ -131,16 +118,13 @@ abbrev pub handler_scope : Surroundings → List StateVariable → HandledEvent 
 handler_scope around state H.Tuple port = record around.scope { vars = map (λ x. x.variable) state; ports = port ∷ []; punct = false }
 handler_scope around state H.Punctuation port = record around.scope { vars = map (λ x. x.variable) state; ports = []; punct = true }
 
-abbrev pub handler_setting : Surroundings → Setting
-handler_setting around = record { types = around.types; purpose = OfHandler around.schemas; outputs = around.outputs }
-
 -- on a port of the name, whose event has no handler before
 abbrev pub handler_typing : Surroundings → List StateVariable → List Handled → Placed Handler → Option (At Port) → Found Handled
 handler_typing around state before h None = unknown h.what.port.at h.what.port.what
 handler_typing around state before h (Some port) =
     if is_some (handler_of h.what.event port.place before) then refused E.ExtraParameter h.at (Some (event_word h.what.event))
-    else after (body_typing (handler_setting around) (handler_scope around state h.what.event port.what) h.what.body)
-    (λ row. Ok (record { event = h.what.event; port = port.place; body = row }))
+    else after (body_typing (record { types = around.types; purpose = OfHandler around.schemas; outputs = around.outputs })
+    (handler_scope around state h.what.event port.what) h.what.body) (λ row. Ok (record { event = h.what.event; port = port.place; body = row }))
 
 abbrev pub handlers_typing : Surroundings → List StateVariable → List Handled → List (Placed Handler) → Found (List Handled)
 handlers_typing around state before [] = Ok before
@@ -156,16 +140,14 @@ handlers_on event handled port (suc count) = handler_of event port handled ∷ h
 -- ---- the clause
 
 abbrev pub handlers_made : Surroundings → List StateVariable → List Handled → Handlers
-handlers_made around state handled =
-    record {
-      state = state;
-      on_tuple = handlers_on H.Tuple handled 0 (length around.scope.ports);
-      on_punct = handlers_on H.Punctuation handled 0 (length around.scope.ports);
-    }
+handlers_made around state handled = record {
+  state = state;
+  on_tuple = handlers_on H.Tuple handled 0 (length around.scope.ports);
+  on_punct = handlers_on H.Punctuation handled 0 (length around.scope.ports);
+}
 
 -- a Custom without logic does nothing
 abbrev pub logic_typing : Surroundings → Option (Placed Logic) → Found Handlers
 logic_typing around None = Ok (handlers_made around [] [])
-logic_typing around (Some l) =
-    after (state_typing around.types around.scope.dollars l.what.state) (λ state.
+logic_typing around (Some l) = after (each (state_variable around.types around.scope.dollars) (λ x. x) l.what.state) (λ state.
     after (handlers_typing around state [] l.what.handlers) (λ handled. Ok (handlers_made around state handled)))

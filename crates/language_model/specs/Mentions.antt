@@ -1,5 +1,5 @@
 -- The calls and the `$` parameters that stand in expressions and statements, in the order of the text.
-use Rattle.std.specs.Prelude.{ℕ, List, [], ◌∷◌, ◌++◌, flat_map, filter_map, Option, Some, None}
+use Rattle.std.specs.Prelude.{ℕ, List, [], ◌∷◌, ◌++◌, flat_map, filter_map, Some, None}
 use Rattle.std.specs.Option.{option_map_or}
 use Rattle.spl_tree.specs.declared.expression.Placed.{Placed}
 use Rattle.spl_tree.specs.declared.expression.Step.{Step}
@@ -7,17 +7,11 @@ use Rattle.spl_tree.specs.declared.expression.Step.TheVariants as N
 use Rattle.spl_tree.specs.declared.expression.ExprKind.TheOpen as X
 use Rattle.spl_tree.specs.declared.expression.ExprKind.TheOpen.{ExprKind-F}
 use Rattle.spl_tree.specs.declared.expression.ExprKind.TheFolds.{fold-ExprKind}
-use Rattle.spl_tree.specs.declared.statement.Declaration.{Declaration}
-use Rattle.spl_tree.specs.declared.statement.StmtKind.{StmtKind}
 use Rattle.spl_tree.specs.declared.statement.StmtKind.TheOpen as Z
 use Rattle.spl_tree.specs.declared.statement.StmtKind.TheOpen.{StmtKind-F}
 use Rattle.spl_tree.specs.declared.statement.StmtKind.TheFolds.{fold-StmtKind}
 use Rattle.spl_tree.specs.declared.unit.Clauses.{Clauses}
 use Rattle.spl_tree.specs.declared.unit.Logic.{Logic}
-use Rattle.spl_tree.specs.declared.unit.OutputAssignments.{OutputAssignments}
-use Rattle.spl_tree.specs.declared.unit.Parameter.{Parameter}
-use Rattle.spl_tree.specs.declared.unit.PortWindow.{PortWindow}
-use Rattle.spl_tree.specs.declared.unit.WindowPart.{WindowPart}
 use Rattle.spl_tree.specs.Trees.{Expr, placed, Stmt}
 
 -- what is called, or the name of a `$` parameter without the `$`
@@ -57,71 +51,42 @@ level_mentions _ at = []
 abbrev pub expr_mentions : Expr → Mentions
 expr_mentions e = fold-ExprKind At level_mentions e.what e.at
 
-abbrev pub optional_mentions : Option Expr → Mentions
-optional_mentions e = option_map_or expr_mentions e []
-
 -- ---- statements
-
-abbrev pub declaration_mentions : Declaration → Mentions
-declaration_mentions d = optional_mentions d.value
 
 abbrev pub level_statement : StmtKind-F Mentions → Mentions
 level_statement (Z.Block ss) = flat_map (λ s. s.what) ss
-level_statement (Z.Declare d) = declaration_mentions d
+level_statement (Z.Declare d) = option_map_or expr_mentions d.value []
 level_statement (Z.Assign place op e) = expr_mentions place ++ expr_mentions e
 level_statement (Z.Call e) = expr_mentions e
 level_statement (Z.If arms other) = flat_map (λ a. expr_mentions a.0 ++ a.1.what) arms ++ option_map_or (λ s. s.what) other []
 level_statement (Z.While c s) = expr_mentions c ++ s.what
 level_statement (Z.For a e s) = expr_mentions e ++ s.what
-level_statement (Z.Return e) = optional_mentions e
+level_statement (Z.Return e) = option_map_or expr_mentions e []
 level_statement (Z.Submit e stream) = expr_mentions e
 level_statement _ = []
 
-abbrev pub statement_mentions : StmtKind → Mentions
-statement_mentions s = fold-StmtKind Mentions level_statement s
-
 abbrev pub block_mentions : List Stmt → Mentions
-block_mentions ss = flat_map (λ s. statement_mentions s.what) ss
+block_mentions ss = flat_map (λ s. fold-StmtKind Mentions level_statement s.what) ss
 
 -- ---- clauses
 
 abbrev pub logic_mentions : Logic → Mentions
-logic_mentions l = flat_map declaration_mentions l.state ++ flat_map (λ h. block_mentions h.what.body) l.handlers
-
-abbrev pub part_of_window_mentions : WindowPart → Mentions
-part_of_window_mentions p = option_map_or (flat_map expr_mentions) p.arguments []
-
-abbrev pub window_mentions : PortWindow → Mentions
-window_mentions w = flat_map part_of_window_mentions w.parts
-
-abbrev pub parameter_mentions : Parameter → Mentions
-parameter_mentions p = flat_map expr_mentions p.values
-
-abbrev pub assignment_mentions : OutputAssignments → Mentions
-assignment_mentions o = flat_map (λ f. expr_mentions f.value) o.assignments
+logic_mentions l = flat_map (λ d. option_map_or expr_mentions d.value []) l.state ++ flat_map (λ h. block_mentions h.what.body) l.handlers
 
 abbrev pub clause_mentions : Clauses → Mentions
 clause_mentions c =
     option_map_or (λ l. logic_mentions l.what) c.logic []
-    ++ option_map_or (λ w. flat_map window_mentions w.what) c.window []
-    ++ flat_map parameter_mentions c.parameters
-    ++ option_map_or (λ o. flat_map assignment_mentions o.what) c.output []
-    ++ flat_map parameter_mentions c.config
+    ++ option_map_or (λ w. flat_map (λ q. flat_map (λ p. option_map_or (flat_map expr_mentions) p.arguments []) q.parts) w.what) c.window []
+    ++ flat_map (λ p. flat_map expr_mentions p.values) c.parameters
+    ++ option_map_or (λ o. flat_map (λ a. flat_map (λ f. expr_mentions f.value) a.assignments) o.what) c.output []
+    ++ flat_map (λ p. flat_map expr_mentions p.values) c.config
 
 -- ---- the two kinds
 
-abbrev pub called_at : ℕ → Mention → Option (Placed (List ℕ))
-called_at at (Called name) = Some (placed at name)
-called_at at (Dollar name) = None
-
-abbrev pub dollar_at : ℕ → Mention → Option (Placed (List ℕ))
-dollar_at at (Called name) = None
-dollar_at at (Dollar name) = Some (placed at name)
-
 -- the calls of functions and of built-in ones
 abbrev pub calls : Mentions → List (Placed (List ℕ))
-calls ms = filter_map (λ m. called_at m.at m.what) ms
+calls ms = filter_map (λ m. elim (m.what) [ Called name ↦ Some (placed m.at name) | Dollar name ↦ None ]) ms
 
 -- the `$` parameters, without the `$`
 abbrev pub dollars : Mentions → List (Placed (List ℕ))
-dollars ms = filter_map (λ m. dollar_at m.at m.what) ms
+dollars ms = filter_map (λ m. elim (m.what) [ Called name ↦ None | Dollar name ↦ Some (placed m.at name) ]) ms

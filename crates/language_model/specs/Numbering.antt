@@ -1,7 +1,7 @@
 -- The numbers of the streams of operators and composites that were expanded: those of an operator stand together, and operators in
 -- their order.
 use Rattle.std.specs.Prelude.{ℕ, zero, suc, ◌+◌, ◌^◌, ◌==◌, min, Bool, false, ◌&&◌, List, [], ◌∷◌, ◌++◌, map, filter_map, length, take, sum_by, position, Option, Some, None, slice_get}
-use Rattle.std.specs.Option.{option_and_then, option_map_or}
+use Rattle.std.specs.Option.{option_and_then, option_map_or, unwrap_or}
 use Rattle.spl_tree.specs.declared.graph.Expansion.{Expansion}
 use Rattle.spl_tree.specs.declared.graph.InputStreams.{InputStreams}
 use Rattle.spl_tree.specs.declared.graph.Op.{Op}
@@ -11,6 +11,7 @@ use Rattle.spl_tree.specs.declared.unit.Composite.{Composite}
 use Rattle.spl_tree.specs.declared.unit.Invocation.{Invocation}
 use Rattle.language_model.specs.declared.expansion.Operation.{Operation}
 use Rattle.language_model.specs.declared.expansion.Source.{Source}
+use Rattle.language_model.specs.Declarations.{first_of}
 use Rattle.language_model.specs.Expansion.{source, Inlined, Made, place_of, input_sources, sources_of}
 use Rattle.language_model.specs.Invoking.{stream_names}
 
@@ -30,13 +31,10 @@ pub record Output : Type 0 where
   pub invocation : ℕ
   pub output : ℕ
 
+-- those of the names of the streams that invocations make, in the order of the text
 abbrev pub outputs_from : ℕ → List Invocation → List Output
 outputs_from number [] = []
 outputs_from number (i ∷ is) = map (λ k. record { invocation = number; output = k }) (numbers_from 0 (length i.outputs)) ++ outputs_from (suc number) is
-
--- those of the names of the streams that a graph makes, in the order of the text
-abbrev pub graph_outputs : Composite → List Output
-graph_outputs c = outputs_from 0 c.graph
 
 abbrev pub is_site : Site → Site → Bool
 is_site s t = (s.expansion == t.expansion) && (s.invocation == t.invocation)
@@ -44,40 +42,34 @@ is_site s t = (s.expansion == t.expansion) && (s.invocation == t.invocation)
 abbrev pub site_at : ℕ → Output → Site
 site_at number o = record { expansion = number; invocation = o.invocation }
 
--- the operator, and the expansion, that stand at a site
-abbrev pub operator_at : Made → Site → Option ℕ
-operator_at made s = position (λ op. is_site op.site s) made.ops
-
-abbrev pub expansion_at : Made → Site → Option ℕ
-expansion_at made s = position (λ e. option_map_or (is_site s) e.site false) made.expansions
-
 -- the name, in the body of a composite, of one of its head's outputs
 abbrev pub output_place : Composite → ℕ → Option ℕ
 output_place c k = option_and_then (λ p. place_of p.name.what (stream_names c)) (slice_get c.outputs k)
 
--- a stream of the operator at the site, or else what the output means in the expansion there
+-- a stream of the operator at the site, where there is one, or else what the output means in the expansion that stands there
 abbrev pub operator_or_expansion : (Source → Option ℕ) → Made → Site → ℕ → Option ℕ → Option ℕ
-operator_or_expansion inner made s k (Some n) = Some (first_stream made.ops n + k)
-operator_or_expansion inner made s k None =
-    option_and_then (λ e. option_and_then (λ x. option_and_then (λ place. inner (source e place)) (output_place x.composite.what k)) (slice_get made.expansions e))
-    (expansion_at made s)
+operator_or_expansion inner made s k operator =
+    option_map_or (λ n. Some (first_stream made.ops n + k)) operator (option_and_then
+    (λ e. option_and_then (λ x. option_and_then (λ place. inner (source e place)) (output_place x.composite.what k)) (slice_get made.expansions e))
+    (position (λ e. option_map_or (is_site s) e.site false) made.expansions))
 
 -- the number of the stream that a name means; outputs of composites are followed at most this number of times
 abbrev pub stream_of : ℕ → Made → Source → Option ℕ
 stream_of zero made x = None
 stream_of (suc count) made x =
-    option_and_then (λ e. option_and_then
-    (λ o. operator_or_expansion (stream_of count made) made (site_at x.expansion o) o.output (operator_at made (site_at x.expansion o)))
-    (slice_get (graph_outputs e.composite.what) x.place))
-    (slice_get made.expansions x.expansion)
+    option_and_then (λ e. option_and_then (λ o.
+    operator_or_expansion (stream_of count made) made (site_at x.expansion o) o.output (position (λ op. is_site op.site (site_at x.expansion o)) made.ops))
+    (slice_get (outputs_from 0 e.composite.what.graph) x.place)) (slice_get made.expansions x.expansion)
 
 abbrev pub streams_of : Made → List Source → List ℕ
 streams_of made xs = filter_map (stream_of (length made.expansions) made) xs
 
 -- ---- the parts of a graph
 
-abbrev pub op_of : Made → ℕ → Operation → Op
-op_of made n op =
+-- the operators, from a number on, each with the numbers of its streams
+abbrev pub ops_from : Made → ℕ → List Operation → List Op
+ops_from made n [] = []
+ops_from made n (op ∷ ops) =
     record {
       name = op.name;
       kind = op.kind;
@@ -85,37 +77,24 @@ op_of made n op =
       outs = numbers_from (first_stream made.ops n) op.outputs;
       site = op.site;
       at = op.at;
-    }
-
-abbrev pub ops_from : Made → ℕ → List Operation → List Op
-ops_from made n [] = []
-ops_from made n (op ∷ ops) = op_of made n op ∷ ops_from made (suc n) ops
+    } ∷ ops_from made (suc n) ops
 
 abbrev pub streams_from : ℕ → List Operation → List Stream
 streams_from n [] = []
 streams_from n (op ∷ ops) = map (λ port. record { maker = n; port = port }) (numbers_from 0 op.outputs) ++ streams_from (suc n) ops
 
--- all names of the graph of an expansion
-abbrev pub own_sources : ℕ → Composite → List Source
-own_sources number c = map (source number) (numbers_from 0 (length (stream_names c)))
-
 -- what an input takes: how many streams, as far as they are counted, and the first
-abbrev pub first_or_none : List ℕ → ℕ
-first_or_none [] = 0
-first_or_none (s ∷ ss) = s
-
 abbrev pub input_streams : Made → List Source → InputStreams
-input_streams made xs = record { count = min (length xs) (2 ^ 30); first = first_or_none (streams_of made (take 1 xs)) }
+input_streams made xs = record { count = min (length xs) (2 ^ 30); first = unwrap_or (first_of (streams_of made (take 1 xs))) 0 }
 
-abbrev pub expansion_of : Made → ℕ → Inlined → Expansion
-expansion_of made number e =
+-- the expansions, from a number on, each with the streams that all names of its graph mean, and what its inputs take
+abbrev pub expansions_from : Made → ℕ → List Inlined → List Expansion
+expansions_from made n [] = []
+expansions_from made n (e ∷ es) =
     record {
       composite = e.composite.place;
       site = e.site;
-      streams = streams_of made (own_sources number e.composite.what);
-      inputs = map (λ k. input_streams made (input_sources (sources_of made.expansions) made.expansions e.site k)) (numbers_from 0 (length e.composite.what.inputs));
-    }
-
-abbrev pub expansions_from : Made → ℕ → List Inlined → List Expansion
-expansions_from made n [] = []
-expansions_from made n (e ∷ es) = expansion_of made n e ∷ expansions_from made (suc n) es
+      streams = streams_of made (map (source n) (numbers_from 0 (length (stream_names e.composite.what))));
+      inputs = map (λ k. input_streams made (input_sources (sources_of made.expansions) made.expansions e.site k))
+          (numbers_from 0 (length e.composite.what.inputs));
+    } ∷ expansions_from made (suc n) es

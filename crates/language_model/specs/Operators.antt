@@ -1,13 +1,12 @@
 -- The results of the operators of expressions on values, and what is taken of a value.
-use Rattle.std.specs.Prelude.{ℕ, zero, ℤ, pos, negsuc, nat_abs, ◌+ℤ◌, ◌-ℤ◌, ◌*ℤ◌, neg_ℤ, int_div, int_rem, Bool, true, false, not, if◌then◌else◌, List, ◌++◌, codes, Option, None, Some, slice_get}
+use Rattle.std.specs.Prelude.{ℕ, zero, ℤ, pos, negsuc, nat_abs, ◌+ℤ◌, ◌-ℤ◌, ◌*ℤ◌, neg_ℤ, int_div, int_rem, Bool, not, if◌then◌else◌, List, ◌++◌, codes, Option, None, Some, slice_get}
 use Rattle.std.specs.List.{list_any}
+use Rattle.std.specs.Option.{option_map_or}
 use Rattle.std.specs.Int.{int_rem_euclid}
 use Rattle.std.specs.Int.Bits.{bit_and, bit_or, bit_xor}
 use Rattle.std.specs.Fmt.{signed_decimal}
 use Rattle.std.specs.declared.cmp.Ordering.{Ordering}
-use Rattle.std.specs.declared.cmp.Ordering.TheVariants as R
-use Rattle.std.specs.Ordering.{eq_by_cmp}
-use Rattle.spl_value.specs.declared.item.FaultKind.{FaultKind}
+use Rattle.std.specs.Ordering.{is_lt, is_gt, is_le, is_ge, eq_by_cmp}
 use Rattle.spl_value.specs.declared.item.FaultKind.TheVariants as K
 use Rattle.spl_value.specs.declared.types.IntKind.{IntKind}
 use Rattle.spl_value.specs.declared.value.Value.{Value}
@@ -61,27 +60,14 @@ abbrev pub level_integers : IntegerOperator → IntKind → Value-F Value → Va
 level_integers op k (O.Int m) (O.Int n) = on_integers op k m n
 level_integers op k _ _ = Unfit
 
--- ---- order and equality
-
-abbrev pub boolean : Bool → CallOutcome
-boolean b = Gives (V.Bool b)
+-- ---- order
 
 -- the order that an operator asks for
 abbrev pub in_order : OrderOperator → Ordering → Bool
-in_order P.Less R.Less = true
-in_order P.LessOrEqual R.Less = true
-in_order P.LessOrEqual R.Equal = true
-in_order P.Greater R.Greater = true
-in_order P.GreaterOrEqual R.Greater = true
-in_order P.GreaterOrEqual R.Equal = true
-in_order _ _ = false
-
--- two integers, by number, or two texts, by bytes
-abbrev pub ordered : OrderOperator → Value → Value → CallOutcome
-ordered op v w = if are_alike (out-Value v) (out-Value w) then boolean (in_order op (value_cmp v w)) else Unfit
-
-abbrev pub is_equal : Value → Value → Bool
-is_equal = eq_by_cmp value_cmp
+in_order P.Less order = is_lt order
+in_order P.LessOrEqual order = is_le order
+in_order P.Greater order = is_gt order
+in_order P.GreaterOrEqual order = is_ge order
 
 -- ---- texts, lists and maps
 
@@ -90,21 +76,22 @@ level_join (O.Text xs) (O.Text ys) = Gives (V.Text (xs ++ ys))
 level_join _ _ = Unfit
 
 abbrev pub level_in_list : Value → Value-F Value → CallOutcome
-level_in_list v (O.List vs) = boolean (list_any (is_equal v) vs)
+level_in_list v (O.List vs) = Gives (V.Bool (list_any (eq_by_cmp value_cmp v) vs))
 level_in_list v _ = Unfit
 
 abbrev pub level_in_map : Value → Value-F Value → CallOutcome
-level_in_map k (O.Map ps) = boolean (pairs_contain ps k)
+level_in_map k (O.Map ps) = Gives (V.Bool (pairs_contain ps k))
 level_in_map k _ = Unfit
 
 -- ---- operators between two operands, both of which are evaluated
 
+-- those of order compare two integers, by number, or two texts, by bytes
 abbrev pub binary_of : BinaryCode → Value → Value → CallOutcome
 binary_of (D.Integers op k) v w = level_integers op k (out-Value v) (out-Value w)
 binary_of D.Join v w = level_join (out-Value v) (out-Value w)
-binary_of (D.Order op) v w = ordered op v w
-binary_of D.Equal v w = boolean (is_equal v w)
-binary_of D.NotEqual v w = boolean (not (is_equal v w))
+binary_of (D.Order op) v w = if are_alike (out-Value v) (out-Value w) then Gives (V.Bool (in_order op (value_cmp v w))) else Unfit
+binary_of D.Equal v w = Gives (V.Bool (eq_by_cmp value_cmp v w))
+binary_of D.NotEqual v w = Gives (V.Bool (not (eq_by_cmp value_cmp v w)))
 binary_of D.InList v w = level_in_list v (out-Value w)
 binary_of D.InMap v w = level_in_map v (out-Value w)
 binary_of D.And v w = Unfit
@@ -112,56 +99,38 @@ binary_of D.Or v w = Unfit
 
 -- ---- operators in front of an operand, and casts
 
-abbrev pub bool_text : Bool → List ℕ
-bool_text true = codes "true"
-bool_text false = codes "false"
-
 -- the bits of -1 - n are those of n, each turned over
 abbrev pub level_unary : UnaryCode → Value-F Value → CallOutcome
-level_unary U.Not (O.Bool b) = boolean (not b)
+level_unary U.Not (O.Bool b) = Gives (V.Bool (not b))
 level_unary (U.Negate k) (O.Int n) = integer k (neg_ℤ n)
 level_unary (U.Complement k) (O.Int n) = integer k (negsuc 0 -ℤ n)
 level_unary (U.ToInteger k) (O.Int n) = integer k n
 level_unary U.ToText (O.Int n) = Gives (V.Text (signed_decimal n))
-level_unary U.ToText (O.Bool b) = Gives (V.Text (bool_text b))
+level_unary U.ToText (O.Bool b) = Gives (V.Text (if b then codes "true" else codes "false"))
 level_unary _ _ = Unfit
-
-abbrev pub unary_of : UnaryCode → Value → CallOutcome
-unary_of op v = level_unary op (out-Value v)
 
 -- ---- members, elements and values at keys
 
--- what is there, or else a fault
-abbrev pub found : FaultKind → Option Value → CallOutcome
-found kind None = Faults kind
-found kind (Some v) = Gives v
-
--- what is there, which what fits always has
-abbrev pub given : Option Value → CallOutcome
-given None = Unfit
-given (Some v) = Gives v
-
+-- a tuple that fits has the member
 abbrev pub level_member : ℕ → Value-F Value → CallOutcome
-level_member i (O.Tuple vs) = given (slice_get vs i)
+level_member i (O.Tuple vs) = option_map_or Gives (slice_get vs i) Unfit
 level_member i _ = Unfit
 
--- the element at an index from 0
+-- the element at an index from 0, or else a fault
 abbrev pub element_at : List Value → ℤ → CallOutcome
-element_at vs (pos i) = found K.Index (slice_get vs i)
+element_at vs (pos i) = option_map_or Gives (slice_get vs i) (Faults K.Index)
 element_at vs (negsuc i) = Faults K.Index
 
 abbrev pub level_element : Value-F Value → Value-F Value → CallOutcome
 level_element (O.List vs) (O.Int n) = element_at vs n
 level_element _ _ = Unfit
 
+-- the value at a key, or else a fault
 abbrev pub level_at_key : Value-F Value → Value → CallOutcome
-level_at_key (O.Map ps) k = found K.NoKey (pairs_get ps k)
+level_at_key (O.Map ps) k = option_map_or Gives (pairs_get ps k) (Faults K.NoKey)
 level_at_key _ k = Unfit
 
+-- the truth of a boolean
 abbrev pub level_truth : Value-F Value → Option Bool
 level_truth (O.Bool b) = Some b
 level_truth _ = None
-
--- the truth of a boolean
-abbrev pub truth_of : Value → Option Bool
-truth_of v = level_truth (out-Value v)

@@ -1,7 +1,8 @@
 -- The output attributes of an operator with what they get: those that are assigned, in the order of the text, and then the others; or the
 -- first refusal.
-use Rattle.std.specs.Prelude.{ℕ, suc, ◌==◌, Bool, List, [], ◌∷◌, ◌++◌, if◌then◌else◌, codes, Option, Some, None, Ok}
+use Rattle.std.specs.Prelude.{ℕ, suc, ◌==◌, List, [], ◌∷◌, ◌++◌, map, fold, if◌then◌else◌, codes, Option, Some, None, Ok}
 use Rattle.std.specs.List.{list_any}
+use Rattle.std.specs.Option.{option_map, option_map_or}
 use Rattle.std.specs.Str.{bytes_eq}
 use Rattle.spl_value.specs.declared.types.Named.{Named}
 use Rattle.spl_value.specs.declared.types.SplType.{SplType}
@@ -26,8 +27,9 @@ use Rattle.language_model.specs.declared.checked.CollectorCall.{CollectorCall}
 use Rattle.language_model.specs.declared.scope.CheckError.TheVariants as E
 use Rattle.language_model.specs.declared.scope.Port.{Port}
 use Rattle.language_model.specs.declared.scope.Scope.{Scope}
-use Rattle.language_model.specs.Scopes.{At, PortAttribute, attribute_of, attributes_of}
-use Rattle.language_model.specs.Typing.{Found, Wanted, after, int32, mismatch, refused, same_types, typing, unknown, wrong_call}
+use Rattle.language_model.specs.After.{each}
+use Rattle.language_model.specs.Scopes.{PortAttribute, attribute_of, attributes_of}
+use Rattle.language_model.specs.Typing.{Found, Wanted, after, int32, looked_up, mismatch, refused, same_types, typing, unknown, wrong_call}
 
 abbrev pub bad_output : {A : Type 0} → ℕ → Found A
 bad_output at = refused E.BadOutput at None
@@ -42,19 +44,12 @@ Assigns A = Wanted → Expr → Found A
 abbrev pub Assigned : Type 0 → Type 0
 Assigned A = List (ℕ × A)
 
-abbrev pub wanted_of : Option (At (Named SplType)) → Wanted
-wanted_of None = None
-wanted_of (Some a) = Some a.what.kind
-
--- the output has the attribute, and it isn't assigned before
-abbrev pub as_attribute : {A : Type 0} → List ℕ → ℕ → A → Option (At (Named SplType)) → Found (ℕ × A)
-as_attribute before at x None = bad_output at
-as_attribute before at x (Some a) = if list_any (λ n. n == a.place) before then bad_output at else Ok (a.place, x)
-
--- the value is looked at first
+-- the value is looked at first; and then whether the output has the attribute, and it isn't assigned before
 abbrev pub assignment_typing : {A : Type 0} → Assigns A → List (Named SplType) → List ℕ → Field Expr → Found (ℕ × A)
 assignment_typing assigns schema before f =
-    after (assigns (wanted_of (attribute_of schema f.name.what)) f.value) (λ x. as_attribute before f.name.at x (attribute_of schema f.name.what))
+    after (assigns (option_map (λ a. a.what.kind) (attribute_of schema f.name.what)) f.value) (λ x.
+    option_map_or (λ a. if list_any (λ n. n == a.place) before then bad_output f.name.at else Ok (a.place, x))
+    (attribute_of schema f.name.what) (bad_output f.name.at))
 
 -- after those with the places `before`, of which the last comes first
 abbrev pub assignments_typing : {A : Type 0} → Assigns A → List (Named SplType) → List ℕ → List (Field Expr) → Found (Assigned A)
@@ -62,18 +57,12 @@ assignments_typing assigns schema before [] = Ok []
 assignments_typing assigns schema before (f ∷ fs) =
     after (assignment_typing assigns schema before f) (λ x. after (assignments_typing assigns schema (x.0 ∷ before) fs) (λ rest. Ok (x ∷ rest)))
 
--- the places of those that are assigned so far
-abbrev pub places : {A : Type 0} → List ℕ → Assigned A → List ℕ
-places before [] = before
-places before (x ∷ xs) = places (x.0 ∷ before) xs
-
--- all of a clause: each row is for the output of its name, which may come again
+-- all of a clause, after those with the places `before`: each row is for the output of its name, which may come again
 abbrev pub rows_typing : {A : Type 0} → Assigns A → List (Named SplType) → List ℕ → List ℕ → List OutputAssignments → Found (Assigned A)
 rows_typing assigns schema output before [] = Ok []
 rows_typing assigns schema output before (o ∷ os) =
-    if bytes_eq o.stream.what output then
-    after (assignments_typing assigns schema before o.assignments) (λ xs.
-    after (rows_typing assigns schema output (places before xs) os) (λ rest. Ok (xs ++ rest)))
+    if bytes_eq o.stream.what output then after (assignments_typing assigns schema before o.assignments) (λ xs.
+    after (rows_typing assigns schema output (fold (λ known x. x.0 ∷ known) before xs) os) (λ rest. Ok (xs ++ rest)))
     else unknown o.stream.at o.stream.what
 
 -- ---- attributes without an assignment
@@ -82,13 +71,10 @@ rows_typing assigns schema output before (o ∷ os) =
 abbrev pub Fills : Type 0 → Type 0
 Fills A = Named SplType → Found A
 
-abbrev pub is_assigned : {A : Type 0} → ℕ → Assigned A → Bool
-is_assigned place xs = list_any (λ x. x.0 == place) xs
-
 abbrev pub filled_from : {A : Type 0} → Fills A → Assigned A → ℕ → List (Named SplType) → Found (Assigned A)
 filled_from fills xs place [] = Ok []
 filled_from fills xs place (a ∷ schema) =
-    if is_assigned place xs then filled_from fills xs (suc place) schema
+    if list_any (λ x. x.0 == place) xs then filled_from fills xs (suc place) schema
     else after (fills a) (λ x. after (filled_from fills xs (suc place) schema) (λ rest. Ok ((place, x) ∷ rest)))
 
 -- the assigned ones, and after them the others in the order of the output
@@ -105,13 +91,11 @@ taken_over scope at a = one_attribute at a.kind (attributes_of scope a.name)
 
 -- ---- tuples
 
-abbrev pub assigned_code : Scope → Assigns (Code Slot)
-assigned_code scope wanted e = after (typing scope e wanted) (λ t. Ok t.code)
-
 -- the output of a Functor or a Join
 abbrev pub tuple_typing : Scope → ℕ → List (Named SplType) → List ℕ → List OutputAssignments → Found (Code Slot)
 tuple_typing scope at schema output rows =
-    after (rows_typing (assigned_code scope) schema output [] rows) (λ xs. after (with_others (taken_over scope at) schema xs) (λ all. Ok (C.Tuple all)))
+    after (rows_typing (λ wanted e. after (typing scope e wanted) (λ t. Ok t.code)) schema output [] rows) (λ xs.
+    after (with_others (taken_over scope at) schema xs) (λ all. Ok (C.Tuple all)))
 
 -- ---- groups
 
@@ -124,14 +108,9 @@ pub data Collecting : Type 0 where
 
 abbrev pub collecting_of : List ℕ → Option Collecting
 collecting_of name =
-    if bytes_eq name (codes "Sum") then Some Summing
-    else if bytes_eq name (codes "Min") then Some (Extreme K.Min)
-    else if bytes_eq name (codes "Max") then Some (Extreme K.Max)
-    else if bytes_eq name (codes "First") then Some (Choosing K.First)
-    else if bytes_eq name (codes "Any") then Some (Choosing K.First)
-    else if bytes_eq name (codes "Last") then Some (Choosing K.Last)
-    else if bytes_eq name (codes "Count") then Some Counting
-    else None
+    looked_up None ((codes "Sum", Some Summing) ∷ (codes "Min", Some (Extreme K.Min)) ∷ (codes "Max", Some (Extreme K.Max))
+    ∷ (codes "First", Some (Choosing K.First)) ∷ (codes "Any", Some (Choosing K.First)) ∷ (codes "Last", Some (Choosing K.Last))
+    ∷ (codes "Count", Some Counting) ∷ []) name
 
 -- what an attribute gets, without its place
 abbrev pub gathers : Collector → Code Slot → SplType → CollectorCall
@@ -152,47 +131,31 @@ called_typing scope at Counting es = wrong_call at
 called_typing scope at collecting (e ∷ []) = after (typing scope e None) (λ t. level_gathers e.at collecting t.code t.kind (out-SplType t.kind))
 called_typing scope at collecting es = wrong_call at
 
-abbrev pub gathered_by : Scope → ℕ → List Expr → Option Collecting → Found CollectorCall
-gathered_by scope at es None = mismatch at
-gathered_by scope at es (Some collecting) = called_typing scope at collecting es
-
 -- exactly one call of such a function
 abbrev pub level_gathered : Scope → ℕ → ExprKind-F ExprKind → Found CollectorCall
-level_gathered scope at (X.Call name es) = gathered_by scope at es (collecting_of name)
+level_gathered scope at (X.Call name es) = option_map_or (λ collecting. called_typing scope at collecting es) (collecting_of name) (mismatch at)
 level_gathered scope at _ = mismatch at
 
-abbrev pub of_wanted : ℕ → Wanted → CollectorCall → Found CollectorCall
-of_wanted at None g = Ok g
-of_wanted at (Some t) g = if same_types g.kind t then Ok g else mismatch at
-
+-- and its type is the one that is wanted
 abbrev pub assigned_group : Scope → Assigns CollectorCall
-assigned_group scope wanted e = after (level_gathered scope e.at (out-ExprKind e.what)) (of_wanted e.at wanted)
+assigned_group scope wanted e =
+    after (level_gathered scope e.at (out-ExprKind e.what)) (λ g.
+    option_map_or (λ t. if same_types g.kind t then Ok g else mismatch e.at) wanted (Ok g))
 
--- without an assignment: the group's last tuple's attribute
-abbrev pub last_of : Scope → ℕ → Fills CollectorCall
-last_of scope at a = after (taken_over scope at a) (λ code. Ok (gathers K.Last code a.kind))
-
-abbrev pub collected : Assigned CollectorCall → List CollectedAttribute
-collected [] = []
-collected (x ∷ xs) = record { attribute = x.0; collector = x.1.collector; argument = x.1.argument } ∷ collected xs
-
--- the output of an Aggregate
+-- the output of an Aggregate. What has no assignment gets the attribute of the group's last tuple
 abbrev pub groups_typing : Scope → ℕ → List (Named SplType) → List ℕ → List OutputAssignments → Found (List CollectedAttribute)
 groups_typing scope at schema output rows =
-    after (rows_typing (assigned_group scope) schema output [] rows) (λ xs. after (with_others (last_of scope at) schema xs) (λ all. Ok (collected all)))
+    after (rows_typing (assigned_group scope) schema output [] rows) (λ xs.
+    after (with_others (λ a. after (taken_over scope at a) (λ code. Ok (gathers K.Last code a.kind))) schema xs) (λ all.
+    Ok (map (λ x. record { attribute = x.0; collector = x.1.collector; argument = x.1.argument }) all)))
 
 -- ---- Union
 
-abbrev pub place_in : ℕ → SplType → Option (At (Named SplType)) → Found ℕ
-place_in at t None = bad_output at
-place_in at t (Some a) = if same_types a.what.kind t then Ok a.place else bad_output at
-
 -- the places in an input of the output's attributes
 abbrev pub places_typing : ℕ → List (Named SplType) → List (Named SplType) → Found (List ℕ)
-places_typing at input [] = Ok []
-places_typing at input (a ∷ schema) =
-    after (place_in at a.kind (attribute_of input a.name)) (λ place. after (places_typing at input schema) (λ rest. Ok (place ∷ rest)))
+places_typing at input schema =
+    each (λ a. option_map_or (λ b. if same_types b.what.kind a.kind then Ok b.place else bad_output at) (attribute_of input a.name) (bad_output at))
+    (λ place. place) schema
 
 abbrev pub inputs_typing : ℕ → List (Named SplType) → List Port → Found (List (List ℕ))
-inputs_typing at schema [] = Ok []
-inputs_typing at schema (p ∷ ps) = after (places_typing at p.schema schema) (λ x. after (inputs_typing at schema ps) (λ rest. Ok (x ∷ rest)))
+inputs_typing at schema ports = each (λ p. places_typing at p.schema schema) (λ places. places) ports

@@ -1,7 +1,7 @@
 -- The parameters of an operator with their values, in the order of the text, or the first refusal.
 use Rattle.std.specs.Prelude.{ℕ, ◌==◌, Bool, true, false, ◌&&◌, List, [], ◌∷◌, map, filter, if◌then◌else◌, codes, Option, Some, None, Ok}
 use Rattle.std.specs.List.{find, list_any}
-use Rattle.std.specs.Option.{option_map}
+use Rattle.std.specs.Option.{option_map, option_map_or}
 use Rattle.std.specs.Str.{bytes_eq}
 use Rattle.spl_value.specs.declared.types.Named.{Named}
 use Rattle.spl_value.specs.declared.types.SplType.{SplType}
@@ -9,6 +9,7 @@ use Rattle.spl_value.specs.declared.types.SplType.TheOpen as T
 use Rattle.spl_value.specs.declared.types.SplType.TheOpen.{SplType-F}
 use Rattle.spl_value.specs.declared.types.SplType.TheVariants as S
 use Rattle.spl_value.specs.declared.types.SplType.TheViews.{out-SplType}
+use Rattle.spl_value.specs.Key.{level_is_key_type}
 use Rattle.spl_tree.specs.declared.code.Code.{Code}
 use Rattle.spl_tree.specs.declared.code.Slot.{Slot}
 use Rattle.spl_tree.specs.declared.expression.ExprKind.{ExprKind}
@@ -25,28 +26,23 @@ use Rattle.language_model.specs.declared.checked.Position.TheVariants as P
 use Rattle.language_model.specs.declared.kinds.Role.{Role}
 use Rattle.language_model.specs.declared.kinds.Role.TheVariants as R
 use Rattle.language_model.specs.declared.scope.CheckError.TheVariants as E
-use Rattle.language_model.specs.declared.scope.Port.{Port}
 use Rattle.language_model.specs.declared.scope.Scope.{Scope}
-use Rattle.language_model.specs.Kinds.{ParameterRule, is_had, is_needed, rules_of}
+use Rattle.language_model.specs.Kinds.{is_had, is_needed, rules_of}
 use Rattle.language_model.specs.Literals.{file_typing}
-use Rattle.language_model.specs.Scopes.{At, attribute_of}
-use Rattle.language_model.specs.Typing.{Found, after, mismatch, refused, typing, unknown}
+use Rattle.language_model.specs.Policies.{of_first}
+use Rattle.language_model.specs.Scopes.{attribute_of}
+use Rattle.language_model.specs.Typing.{Found, after, looked_up, mismatch, refused, typing, unknown}
 
 -- ---- which parameters an operator has
 
--- what the values of the parameter of the name are, where it is one of these
-abbrev pub role_among : List ParameterRule → Bool → List ℕ → Option Role
-role_among parameters partitioned name = option_map (λ p. p.role) (find (λ p. is_had partitioned p.presence && bytes_eq p.name name) parameters)
-
+-- what the values of the parameter of the name are, where the operator has it
 abbrev pub role_of : OpKind → Bool → List ℕ → Option Role
-role_of kind = role_among (rules_of kind).parameters
+role_of kind partitioned name =
+    option_map (λ p. p.role) (find (λ p. is_had partitioned p.presence && bytes_eq p.name name) (rules_of kind).parameters)
 
 -- those that are needed
-abbrev pub needed_among : List ParameterRule → Bool → List (List ℕ)
-needed_among parameters partitioned = map (λ p. p.name) (filter (λ p. is_needed partitioned p.presence) parameters)
-
 abbrev pub needed : OpKind → Bool → List (List ℕ)
-needed kind = needed_among (rules_of kind).parameters
+needed kind partitioned = map (λ p. p.name) (filter (λ p. is_needed partitioned p.presence) (rules_of kind).parameters)
 
 -- ---- values
 
@@ -60,61 +56,26 @@ abbrev pub level_word : ExprKind-F ExprKind → Option (List ℕ)
 level_word (X.Name name) = Some name
 level_word _ = None
 
-abbrev pub word_of : Expr → Option (List ℕ)
-word_of e = level_word (out-ExprKind e.what)
-
--- how the word of a parameter at a place is read, where there is one
-abbrev pub WordReading : Type 0
-WordReading = ℕ → Option (List ℕ) → Found ParameterValue
-
-abbrev pub format_of : WordReading
-format_of at None = mismatch at
-format_of at (Some word) = if bytes_eq word (codes "csv") then Ok V.Format else mismatch at
-
-abbrev pub parsing_of : WordReading
-parsing_of at None = mismatch at
-parsing_of at (Some word) =
-    if bytes_eq word (codes "strict") then Ok (V.Strict true) else if bytes_eq word (codes "permissive") then Ok (V.Strict false) else mismatch at
-
-abbrev pub position_of : WordReading
-position_of at None = mismatch at
-position_of at (Some word) =
-    if bytes_eq word (codes "before") then Ok (V.Position P.Before) else if bytes_eq word (codes "after") then Ok (V.Position P.After) else mismatch at
+-- one of the words of a table, which gives what each means
+abbrev pub word_typing : List (List ℕ × Found ParameterValue) → Expr → Found ParameterValue
+word_typing table e = option_map_or (looked_up (mismatch e.at) table) (level_word (out-ExprKind e.what)) (mismatch e.at)
 
 abbrev pub level_index : ℕ → Code Slot → SplType-F SplType → Found ParameterValue
 level_index at code (T.Int kind) = Ok (V.Code code)
 level_index at code _ = mismatch at
 
--- an attribute by whose values tuples are distinguished: an integer, a boolean or a text
-abbrev pub level_key : SplType-F SplType → Bool
-level_key (T.Int kind) = true
-level_key T.Bool = true
-level_key T.Text = true
-level_key _ = false
-
-abbrev pub key_at : ℕ → List ℕ → List ℕ → Option (At (Named SplType)) → Found ℕ
-key_at at name before None = unknown at name
-key_at at name before (Some a) = if level_key (out-SplType a.what.kind) then (if list_any (λ n. n == a.place) before then mismatch at else Ok a.place) else mismatch at
-
+-- the place of an attribute by whose values tuples are distinguished, an integer, a boolean or a text, that isn't named before
 abbrev pub key_of : List (Named SplType) → List ℕ → ℕ → Option (List ℕ) → Found ℕ
-key_of schema before at None = mismatch at
-key_of schema before at (Some name) = key_at at name before (attribute_of schema name)
+key_of schema before at word =
+    option_map_or (λ name. option_map_or (λ a.
+    if level_is_key_type (out-SplType a.what.kind) then (if list_any (λ n. n == a.place) before then mismatch at else Ok a.place) else mismatch at)
+    (attribute_of schema name) (unknown at name)) word (mismatch at)
 
 -- bare names of attributes, each once
 abbrev pub keys_typing : List (Named SplType) → List ℕ → List Expr → Found (List ℕ)
 keys_typing schema before [] = Ok []
 keys_typing schema before (e ∷ es) =
-    after (key_of schema before e.at (word_of e)) (λ place. after (keys_typing schema (place ∷ before) es) (λ rest. Ok (place ∷ rest)))
-
--- one or more
-abbrev pub some_keys : ℕ → List (Named SplType) → List Expr → Found (List ℕ)
-some_keys at schema [] = mismatch at
-some_keys at schema (e ∷ es) = keys_typing schema [] (e ∷ es)
-
--- the attributes of the first port
-abbrev pub first_schema : List Port → List (Named SplType)
-first_schema [] = []
-first_schema (p ∷ ps) = p.schema
+    after (key_of schema before e.at (level_word (out-ExprKind e.what))) (λ place. after (keys_typing schema (place ∷ before) es) (λ rest. Ok (place ∷ rest)))
 
 -- the one value of a parameter; a second one is refused after it
 abbrev pub one_value : ℕ → (Expr → Found ParameterValue) → List Expr → Found ParameterValue
@@ -124,15 +85,18 @@ one_value at value (e ∷ d ∷ es) = after (value e) (λ x. mismatch d.at)
 
 abbrev pub single_value : Site → Role → Expr → Found ParameterValue
 single_value site R.File e = after (file_typing site.scope site.follow e) (λ bytes. Ok (V.File bytes))
-single_value site R.Format e = format_of e.at (word_of e)
-single_value site R.Parsing e = parsing_of e.at (word_of e)
-single_value site R.Position e = position_of e.at (word_of e)
+single_value site R.Format e = word_typing ((codes "csv", Ok V.Format) ∷ []) e
+single_value site R.Parsing e = word_typing ((codes "strict", Ok (V.Strict true)) ∷ (codes "permissive", Ok (V.Strict false)) ∷ []) e
+single_value site R.Position e = word_typing ((codes "before", Ok (V.Position P.Before)) ∷ (codes "after", Ok (V.Position P.After)) ∷ []) e
 single_value site R.Condition e = after (typing site.scope e (Some S.Bool)) (λ t. Ok (V.Code t.code))
 single_value site R.Index e = after (typing site.scope e None) (λ t. level_index e.at t.code (out-SplType t.kind))
 single_value site R.Attributes e = mismatch e.at
 
+-- one attribute or more of the first port, or one value
 abbrev pub value_typing : Site → Parameter → Role → Found ParameterValue
-value_typing site p R.Attributes = after (some_keys p.name.at (first_schema site.scope.ports) p.values) (λ places. Ok (V.Places places))
+value_typing site p R.Attributes =
+    after (of_first (mismatch p.name.at) (λ e es. keys_typing (of_first [] (λ q others. q.schema) site.scope.ports) [] (e ∷ es)) p.values) (λ places.
+    Ok (V.Places places))
 value_typing site p role = one_value p.name.at (single_value site role) p.values
 
 -- ---- a clause
@@ -142,10 +106,9 @@ extra p = refused E.ExtraParameter p.name.at (Some p.name.what)
 
 -- one that the operator has, and that wasn't given before
 abbrev pub parameter_typing : Site → List (List ℕ) → Parameter → Option Role → Found Given
-parameter_typing site before p None = extra p
-parameter_typing site before p (Some role) =
-    if list_any (λ name. bytes_eq name p.name.what) before then extra p
-    else after (value_typing site p role) (λ value. Ok (record { name = p.name.what; value = value }))
+parameter_typing site before p o =
+    option_map_or (λ role. if list_any (λ name. bytes_eq name p.name.what) before then extra p
+    else after (value_typing site p role) (λ value. Ok (record { name = p.name.what; value = value }))) o (extra p)
 
 abbrev pub parameters_typing : Site → OpKind → Bool → List (List ℕ) → List Parameter → Found (List Given)
 parameters_typing site kind partitioned before [] = Ok []

@@ -1,6 +1,6 @@
 -- What the `$` parameters of composites mean in each expansion: an argument, which is typed where the composite is invoked, or else
 -- the default, under the type of the parameter.
-use Rattle.std.specs.Prelude.{ℕ, zero, suc, ◌==◌, Bool, true, false, ◌&&◌, not, List, [], ◌∷◌, ◌++◌, filter_map, length, if◌then◌else◌, Option, Some, None, is_some, slice_get}
+use Rattle.std.specs.Prelude.{ℕ, zero, suc, ◌==◌, Bool, true, false, ◌&&◌, not, List, [], ◌∷◌, ◌++◌, filter_map, length, if◌then◌else◌, Option, Some, is_some, slice_get}
 use Rattle.std.specs.List.{list_all}
 use Rattle.std.specs.Option.{option_map, option_map_or}
 use Rattle.std.specs.Str.{bytes_eq}
@@ -40,48 +40,35 @@ level_constant (X.Binary op left right) = left.what && right.what
 level_constant (X.Conditional c a b) = c.what && a.what && b.what
 level_constant _ = true
 
-abbrev pub is_constant : Expr → Bool
-is_constant e = fold-ExprKind Bool level_constant e.what
-
 -- where these `$` parameters alone can be named
 abbrev pub constant_scope : List Dollar → Scope
 constant_scope given = record no_names { dollars = given }
 
 -- an expression as the value of a parameter of the type
 abbrev pub constant_typing : List Dollar → Expr → SplType → Found Typed
-constant_typing given e t = if is_constant e then typing (constant_scope given) e (Some t) else mismatch e.at
+constant_typing given e t = if fold-ExprKind Bool level_constant e.what then typing (constant_scope given) e (Some t) else mismatch e.at
 
 -- ---- the parameters of one expansion
 
--- without an argument the default is the value of the parameter, and without both the parameter is unknown
-abbrev pub default_typing : List Dollar → CompositeParameter → SplType → Option Expr → Found Typed
-default_typing own p t None = unknown p.name.at p.name.what
-default_typing own p t (Some e) = constant_typing own e t
-
-abbrev pub value_typing : List Dollar → List Dollar → CompositeParameter → SplType → Option Expr → Found Typed
-value_typing outer own p t (Some argument) = constant_typing outer argument t
-value_typing outer own p t None = default_typing own p t p.default
-
+-- the value of a parameter is its argument, which may name the outer parameters. Without one it is the default, which may name those of
+-- the composite itself, and without both the parameter is unknown
 abbrev pub parameter_typing : Types → List Dollar → List Dollar → List Parameter → CompositeParameter → Found Typed
 parameter_typing types outer own arguments p =
-    after (type_meant types p.kind) (λ t. value_typing outer own p t (value_named arguments p.name.what))
+    after (type_meant types p.kind) (λ t. option_map_or (λ argument. constant_typing outer argument t) (value_named arguments p.name.what)
+    (option_map_or (λ e. constant_typing own e t) p.default (unknown p.name.at p.name.what)))
 
--- the places of the parameters that stand in the default of the one at a place, where it has no argument
+-- the place of the parameter of the name
 abbrev pub parameter_place : List CompositeParameter → List ℕ → Option ℕ
 parameter_place parameters name = option_map (λ p. p.place) (first_from (λ p. bytes_eq p.name.what name) 0 parameters)
 
-abbrev pub default_leads : List CompositeParameter → List Parameter → CompositeParameter → List ℕ
-default_leads parameters arguments p =
-    if is_some (value_named arguments p.name.what) then []
-    else option_map_or (λ e. filter_map (parameter_place parameters) (dollars_in e)) p.default []
-
+-- the places of the parameters that stand in the default of the one at a place, where it has no argument
 abbrev pub parameter_leads : List CompositeParameter → List Parameter → ℕ → List ℕ
-parameter_leads parameters arguments place = option_map_or (default_leads parameters arguments) (slice_get parameters place) []
+parameter_leads parameters arguments place = option_map_or (λ p. if is_some (value_named arguments p.name.what) then []
+    else option_map_or (λ e. filter_map (parameter_place parameters) (dollars_in e)) p.default []) (slice_get parameters place) []
 
 -- a parameter has a meaning where it is the first of its name and its default doesn't lead back to it
 abbrev pub has_meaning : List CompositeParameter → List Parameter → ℕ → CompositeParameter → Bool
-has_meaning parameters arguments place p =
-    option_map_or (λ first. first == place) (parameter_place parameters p.name.what) false
+has_meaning parameters arguments place p = option_map_or (λ first. first == place) (parameter_place parameters p.name.what) false
     && not (leads_back (length parameters) (parameter_leads parameters arguments) place)
 
 -- those from a place on that pass, with what is found for each
@@ -90,18 +77,12 @@ own_from passes found place [] = []
 own_from passes found place (p ∷ ps) =
     (if passes place p then record { name = p.name.what; found = found p } ∷ [] else []) ++ own_from passes found (suc place) ps
 
--- defaults are followed at most this number of times
+-- the parameters of a composite that is invoked with these arguments, where there are those of the outer one. One that leads back to
+-- itself by its default has no meaning, also where another has its name. Defaults are followed at most this number of times
 abbrev pub own_within : ℕ → Types → List Dollar → List Parameter → List CompositeParameter → List Dollar
 own_within zero types outer arguments parameters = []
 own_within (suc count) types outer arguments parameters =
-    own_from (has_meaning parameters arguments)
-    (parameter_typing types outer (own_within count types outer arguments parameters) arguments) 0 parameters
-
--- the parameters of a composite that is invoked with these arguments, where there are those of the outer one. One that leads back to
--- itself by its default has no meaning, also where another has its name; a row of defaults of others is no longer than there are
--- parameters
-abbrev pub parameters_given : Types → List Dollar → List Parameter → List CompositeParameter → List Dollar
-parameters_given types outer arguments parameters = own_within (length parameters) types outer arguments parameters
+    own_from (has_meaning parameters arguments) (parameter_typing types outer (own_within count types outer arguments parameters) arguments) 0 parameters
 
 -- ---- the parameters of all expansions
 
@@ -111,11 +92,11 @@ Tables = List (List Dollar)
 abbrev pub table_at : Tables → ℕ → List Dollar
 table_at tables number = option_map_or (λ table. table) (slice_get tables number) []
 
--- those of an expansion, after those of the expansions before it
+-- those of an expansion, after those of the expansions before it. A row of defaults that lead on is no longer than there are parameters
 abbrev pub expansion_dollars : List Definition → List Expansion → Tables → Expansion → List Dollar
 expansion_dollars unit expansions before x =
-    option_map_or (λ c. parameters_given (composite_types unit c) (option_map_or (λ s. table_at before s.expansion) x.site []) (arguments_of unit expansions x) c.parameters)
-    (composite_of unit x) []
+    option_map_or (λ c. own_within (length c.parameters) (composite_types unit c) (option_map_or (λ s. table_at before s.expansion) x.site [])
+    (arguments_of unit expansions x) c.parameters) (composite_of unit x) []
 
 abbrev pub tables_from : List Definition → List Expansion → Tables → List Expansion → Tables
 tables_from unit expansions before [] = []

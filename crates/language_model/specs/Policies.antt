@@ -1,6 +1,7 @@
 -- The windows that operators have, as they are written, or the first refusal, in the order of the text.
 use Rattle.std.specs.Prelude.{ℕ, pos, ◌==◌, nat_le, Bool, true, false, ◌&&◌, List, [], ◌∷◌, if◌then◌else◌, codes, Option, Some, None, Ok, is_none}
 use Rattle.std.specs.List.{list_any}
+use Rattle.std.specs.Option.{option_map_or}
 use Rattle.std.specs.Str.{bytes_eq}
 use Rattle.spl_value.specs.declared.types.IntKind.{IntKind}
 use Rattle.spl_value.specs.declared.types.Named.{Named}
@@ -29,6 +30,11 @@ use Rattle.language_model.specs.Typing.{Found, after, refused, same_types, unkno
 abbrev pub bad_window : {A : Type 0} → ℕ → Found A
 bad_window at = refused E.BadWindow at None
 
+-- what `f` makes of the first of a list and of those after it, or `d` where the list is empty
+abbrev pub of_first : {A B : Type 0} → B → (A → List A → B) → List A → B
+of_first d f [] = d
+of_first d f (x ∷ xs) = f x xs
+
 -- ---- numbers and attributes
 
 -- the number literal that an expression means, or nothing, or the refusal of a `$` parameter
@@ -38,16 +44,13 @@ Numbers = Expr → Found (Option Number)
 abbrev pub most_tuples : ℕ
 most_tuples = 1000000
 
-abbrev pub as_count : ℕ → ℕ → Option Number → Found ℕ
-as_count at least None = bad_window at
-as_count at least (Some n) = if nat_le least n.value && nat_le n.value most_tuples then Ok n.value else bad_window at
+-- the value of a number literal that passes the test
+abbrev pub fitting : (Number → Bool) → ℕ → Option Number → Found ℕ
+fitting test at o = option_map_or (λ n. if test n then Ok n.value else bad_window at) o (bad_window at)
 
--- a number of tuples, at least `least`
-abbrev pub count_of : Numbers → ℕ → Expr → Found ℕ
-count_of numbers least e = after (numbers e) (as_count e.at least)
-
+-- a number of tuples, at least `least`, as the one argument of a part
 abbrev pub only_count : Numbers → ℕ → WindowPart → Option (List Expr) → Found ℕ
-only_count numbers least p (Some (e ∷ [])) = count_of numbers least e
+only_count numbers least p (Some (e ∷ [])) = after (numbers e) (fitting (λ n. nat_le least n.value && nat_le n.value most_tuples) e.at)
 only_count numbers least p arguments = bad_window p.name.at
 
 -- an attribute of an integer type, by its name
@@ -59,28 +62,21 @@ abbrev pub level_integer : ℕ → ℕ → SplType-F SplType → Found IntegerAt
 level_integer at place (O.Int kind) = Ok (record { place = place; kind = kind })
 level_integer at place _ = bad_window at
 
-abbrev pub as_integer : ℕ → List ℕ → Option (At (Named SplType)) → Found IntegerAttribute
-as_integer at name None = unknown at name
-as_integer at name (Some a) = level_integer at a.place (out-SplType a.what.kind)
-
 abbrev pub level_attribute : List (Named SplType) → ℕ → ExprKind-F ExprKind → Found IntegerAttribute
-level_attribute schema at (X.Name name) = as_integer at name (attribute_of schema name)
+level_attribute schema at (X.Name name) =
+    option_map_or (λ a. level_integer at a.place (out-SplType a.what.kind)) (attribute_of schema name) (unknown at name)
 level_attribute schema at _ = bad_window at
-
--- a limit is a number literal of the attribute's type, and in its range
-abbrev pub as_limit : ℕ → IntKind → Option Number → Found ℕ
-as_limit at kind None = bad_window at
-as_limit at kind (Some n) = if same_types (S.Int n.kind) (S.Int kind) && kind_holds kind (pos n.value) then Ok n.value else bad_window at
 
 pub record Delta : Type 0 where
   pub attribute : ℕ
   pub limit : ℕ
 
-abbrev pub limited : Numbers → IntegerAttribute → Expr → Found Delta
-limited numbers a e = after (numbers e) (λ n. after (as_limit e.at a.kind n) (λ limit. Ok (record { attribute = a.place; limit = limit })))
-
+-- an attribute and a limit, which is a number literal of the attribute's type, and in its range
 abbrev pub delta_of : Numbers → List (Named SplType) → WindowPart → Option (List Expr) → Found Delta
-delta_of numbers schema p (Some (a ∷ e ∷ [])) = after (level_attribute schema a.at (out-ExprKind a.what)) (λ attribute. limited numbers attribute e)
+delta_of numbers schema p (Some (a ∷ e ∷ [])) =
+    after (level_attribute schema a.at (out-ExprKind a.what)) (λ found. after (numbers e) (λ o.
+    after (fitting (λ n. same_types (S.Int n.kind) (S.Int found.kind) && kind_holds found.kind (pos n.value)) e.at o) (λ limit.
+    Ok (record { attribute = found.place; limit = limit }))))
 delta_of numbers schema p arguments = bad_window p.name.at
 
 -- ---- parts
@@ -99,9 +95,9 @@ measured numbers least schema by_count by_delta other p =
     else if has_name (codes "delta") p then after (delta_of numbers schema p p.arguments) (λ d. Ok (by_delta d))
     else other
 
-abbrev pub nothing_behind : {A : Type 0} → A → List WindowPart → Found A
-nothing_behind x [] = Ok x
-nothing_behind x (p ∷ ps) = bad_window p.name.at
+-- what is found, where no part follows
+abbrev pub nothing_follows : {A : Type 0} → A → List WindowPart → Found A
+nothing_follows x ps = of_first (Ok x) (λ p others. bad_window p.name.at) ps
 
 abbrev pub are_no_arguments : Option (List Expr) → Bool
 are_no_arguments (Some []) = true
@@ -119,31 +115,20 @@ RuleReading = Numbers → List (Named SplType) → ℕ → List WindowPart → F
 abbrev pub tumbling : RuleReading
 tumbling numbers schema at [] = bad_window at
 tumbling numbers schema at (p ∷ ps) =
-    after (measured numbers 1 schema W.TumblingCount (λ d. W.TumblingDelta d.attribute (pos d.limit)) (punctuated p) p) (λ rule. nothing_behind rule ps)
+    after (measured numbers 1 schema W.TumblingCount (λ d. W.TumblingDelta d.attribute (pos d.limit)) (punctuated p) p) (λ rule. nothing_follows rule ps)
 
 -- what slides: tuples that are kept, by the count that fires
-abbrev pub Sliding : Type 0
-Sliding = Option ℕ → WindowRule
-
-abbrev pub sliding_rule : Numbers → ℕ → List (Named SplType) → WindowPart → Found Sliding
+abbrev pub sliding_rule : Numbers → ℕ → List (Named SplType) → WindowPart → Found (Option ℕ → WindowRule)
 sliding_rule numbers least schema p =
     measured numbers least schema (λ n every. W.SlidingCount n every) (λ d every. W.SlidingDelta d.attribute (pos d.limit) every) (bad_window p.name.at) p
 
--- the count that fires
-abbrev pub trigger : Numbers → ℕ → List WindowPart → Found ℕ
-trigger numbers at [] = bad_window at
-trigger numbers at (p ∷ ps) =
-    after (if has_name (codes "count") p then only_count numbers 1 p p.arguments else bad_window p.name.at) (λ n. nothing_behind n ps)
-
--- after `sliding`
+-- after `sliding`: what is kept, and then the count that fires
 abbrev pub sliding_with_trigger : RuleReading
 sliding_with_trigger numbers schema at [] = bad_window at
 sliding_with_trigger numbers schema at (p ∷ ps) =
-    after (sliding_rule numbers 1 schema p) (λ rule. after (trigger numbers at ps) (λ every. Ok (rule (Some every))))
-
-abbrev pub sliding_alone : RuleReading
-sliding_alone numbers schema at [] = bad_window at
-sliding_alone numbers schema at (p ∷ ps) = after (sliding_rule numbers 0 schema p) (λ rule. nothing_behind (rule None) ps)
+    after (sliding_rule numbers 1 schema p) (λ rule. after (of_first (bad_window at) (λ q others.
+    after (if has_name (codes "count") q then only_count numbers 1 q q.arguments else bad_window q.name.at) (λ n. nothing_follows n others)) ps) (λ every.
+    Ok (rule (Some every))))
 
 -- ---- windows
 
@@ -155,45 +140,36 @@ aggregate_rule numbers schema at (p ∷ ps) =
     else if is_word (codes "sliding") p then sliding_with_trigger numbers schema at ps
     else bad_window p.name.at
 
--- and of a Join
+-- and of a Join: after `sliding` what is kept, alone
 abbrev pub join_rule : RuleReading
 join_rule numbers schema at [] = bad_window at
-join_rule numbers schema at (p ∷ ps) = if is_word (codes "sliding") p then sliding_alone numbers schema at ps else bad_window p.name.at
+join_rule numbers schema at (p ∷ ps) = if is_word (codes "sliding") p
+    then of_first (bad_window at) (λ q others. after (sliding_rule numbers 0 schema q) (λ rule. nothing_follows (rule None) others)) ps
+    else bad_window p.name.at
 
 -- whether the last part is `partitioned`, and the parts without it
 pub record Parts : Type 0 where
   pub partitioned : Bool
   pub others : List WindowPart
 
-abbrev pub in_front : WindowPart → Parts → Parts
-in_front p parts = record { partitioned = parts.partitioned; others = p ∷ parts.others }
-
 abbrev pub partitioned_last : List WindowPart → Parts
 partitioned_last [] = record { partitioned = false; others = [] }
-partitioned_last (p ∷ []) = if is_word (codes "partitioned") p then record { partitioned = true; others = [] } else record { partitioned = false; others = p ∷ [] }
-partitioned_last (p ∷ ps) = in_front p (partitioned_last ps)
+partitioned_last (p ∷ []) =
+    if is_word (codes "partitioned") p then record { partitioned = true; others = [] } else record { partitioned = false; others = p ∷ [] }
+partitioned_last (p ∷ ps) = record (partitioned_last ps) { others = p ∷ (partitioned_last ps).others }
 
 -- `partitioned` stands first or last, or not at all
 abbrev pub partitioned_or_not : List WindowPart → Parts
 partitioned_or_not [] = record { partitioned = false; others = [] }
 partitioned_or_not (p ∷ ps) = if is_word (codes "partitioned") p then record { partitioned = true; others = ps } else partitioned_last (p ∷ ps)
 
-abbrev pub aggregate_policy : Numbers → Port → PortWindow → Found Policy
-aggregate_policy numbers port w =
-    let parts = partitioned_or_not w.parts in
-    after (aggregate_rule numbers port.schema w.port.at parts.others) (λ rule. Ok (record { partitioned = parts.partitioned; rule = rule }))
-
-abbrev pub join_policy : Numbers → Port → PortWindow → Found Policy
-join_policy numbers port w = after (join_rule numbers port.schema w.port.at w.parts) (λ rule. Ok (record { partitioned = false; rule = rule }))
-
 -- ---- a clause
 
 -- the windows of ports, by their numbers, in the order of the text: each of a port of its name, none of one that has one
 abbrev pub window_of : (Port → PortWindow → Found Policy) → List ℕ → PortWindow → Option (At Port) → Found (ℕ × Policy)
-window_of policy given w None = unknown w.port.at w.port.what
-window_of policy given w (Some port) =
-    if list_any (λ n. n == port.place) given then refused E.ExtraParameter w.port.at (Some (codes "window"))
-    else after (policy port.what w) (λ x. Ok (port.place, x))
+window_of policy given w o =
+    option_map_or (λ port. if list_any (λ n. n == port.place) given then refused E.ExtraParameter w.port.at (Some (codes "window"))
+    else after (policy port.what w) (λ x. Ok (port.place, x))) o (unknown w.port.at w.port.what)
 
 abbrev pub windows_typing : (Port → PortWindow → Found Policy) → List Port → List ℕ → List PortWindow → Found (List (ℕ × Policy))
 windows_typing policy ports given [] = Ok []

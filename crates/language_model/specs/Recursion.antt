@@ -1,12 +1,10 @@
 -- Which functions and composites reach themselves.
-use Rattle.std.specs.Prelude.{◌≡◌, ◌⊎◌, ℕ, ◌<◌, List, map, filter_map, Option, Some, slice_get}
+use Rattle.std.specs.Prelude.{◌≡◌, ◌⊎◌, ℕ, ◌<◌, List, map, filter_map, Some, slice_get}
 use Rattle.std.specs.Option.{option_map}
 use Rattle.std.specs.List.{Contains}
 use Rattle.std.specs.Str.{bytes_eq}
 use Rattle.spl_tree.specs.declared.expression.Placed.{Placed}
-use Rattle.spl_tree.specs.declared.unit.Composite.{Composite}
 use Rattle.spl_tree.specs.declared.unit.Definition.{Definition}
-use Rattle.spl_tree.specs.declared.unit.FunctionDefinition.{FunctionDefinition}
 use Rattle.spl_tree.specs.Trees.{placed}
 use Rattle.language_model.specs.Composites.{composites, functions}
 use Rattle.language_model.specs.Mentions.{calls, block_mentions}
@@ -17,18 +15,12 @@ pub record Caller : Type 0 where
   pub name : List ℕ
   pub called : List (Placed (List ℕ))
 
-abbrev pub function_caller : FunctionDefinition → Caller
-function_caller f = record { name = f.name.what; called = calls (block_mentions f.body) }
+abbrev pub function_callers : List Definition → List Caller
+function_callers unit = map (λ f. record { name = f.name.what; called = calls (block_mentions f.body) }) (functions unit)
 
 -- a composite calls what it invokes, at the first tokens of the invocations
-abbrev pub composite_caller : Composite → Caller
-composite_caller c = record { name = c.name.what; called = map (λ i. placed i.at i.operator.what) c.graph }
-
-abbrev pub function_callers : List Definition → List Caller
-function_callers unit = map function_caller (functions unit)
-
 abbrev pub composite_callers : List Definition → List Caller
-composite_callers unit = map composite_caller (composites unit)
+composite_callers unit = map (λ c. record { name = c.name.what; called = map (λ i. placed i.at i.operator.what) c.graph }) (composites unit)
 
 -- ---- calls by places
 
@@ -36,11 +28,9 @@ composite_callers unit = map composite_caller (composites unit)
 abbrev pub Calls : Type 0
 Calls = List (List (Placed ℕ))
 
-abbrev pub call_among : List Caller → Placed (List ℕ) → Option (Placed ℕ)
-call_among callers n = option_map (λ c. placed n.at c.place) (first_from (λ c. bytes_eq c.name n.what) 0 callers)
-
 abbrev pub calls_among : List Caller → Calls
-calls_among callers = map (λ c. filter_map (call_among callers) c.called) callers
+calls_among callers =
+    map (λ c. filter_map (λ n. option_map (λ d. placed n.at d.place) (first_from (λ d. bytes_eq d.name n.what) 0 callers)) c.called) callers
 
 -- the one at that place calls the other
 pub record IsCall (calls : Calls) (from to : ℕ) : Type 0 where
@@ -71,9 +61,6 @@ pub record IsFirstRecursion (calls : Calls) (place : ℕ) (at : ℕ) : Type 0 wh
   pub first : (i : ℕ) (c : Placed ℕ) → i < number → slice_get list i ≡ Some c → IsBack calls place c → ⊥
   pub place_of : call.at ≡ at
 
-abbrev pub IsAcyclic : Calls → Type 0
-IsAcyclic calls = (i : ℕ) → Leads calls i i → ⊥
-
 -- ---- functions, and then composites
 
 -- the first of these callers that reaches itself, by its name, at that call
@@ -85,7 +72,7 @@ pub record IsFirstIn (callers : List Caller) (n : Placed (List ℕ)) : Type 0 wh
   pub name : caller.name ≡ n.what
 
 abbrev pub HasNoRecursion : List Caller → Type 0
-HasNoRecursion callers = IsAcyclic (calls_among callers)
+HasNoRecursion callers = (i : ℕ) → Leads (calls_among callers) i i → ⊥
 
 pub data IsRecursive (unit : List Definition) (n : Placed (List ℕ)) : Type 0 where
   in_functions : IsFirstIn (function_callers unit) n → IsRecursive unit n

@@ -1,6 +1,6 @@
 -- What the names of an expression mean.
 use Rattle.std.specs.Prelude.{ℕ, suc, Bool, List, [], ◌∷◌, ◌++◌, if◌then◌else◌, Option, Some, None, Result}
-use Rattle.std.specs.Option.{option_map}
+use Rattle.std.specs.Option.{option_map, option_map_or, option_or}
 use Rattle.std.specs.Str.{bytes_eq}
 use Rattle.spl_value.specs.declared.types.Named.{Named}
 use Rattle.spl_value.specs.declared.types.SplType.{SplType}
@@ -25,14 +25,10 @@ abbrev pub first_from : {A : Type 0} → (A → Bool) → ℕ → List A → Opt
 first_from p i [] = None
 first_from p i (x ∷ xs) = if p x then Some (at_place i x) else first_from p (suc i) xs
 
-abbrev pub or_before : {A : Type 0} → Option (At A) → Option (At A) → Option (At A)
-or_before None before = before
-or_before (Some x) before = Some x
-
 -- the last that passes
 abbrev pub last_from : {A : Type 0} → (A → Bool) → ℕ → List A → Option (At A)
 last_from p i [] = None
-last_from p i (x ∷ xs) = or_before (last_from p (suc i) xs) (if p x then Some (at_place i x) else None)
+last_from p i (x ∷ xs) = option_or (last_from p (suc i) xs) (if p x then Some (at_place i x) else None)
 
 -- the variable of the name: of several that which was declared last, so a local one before one of the state
 abbrev pub variable_of : Scope → List ℕ → Option (At Variable)
@@ -47,21 +43,15 @@ pub record PortAttribute : Type 0 where
   pub attribute : ℕ
   pub kind : SplType
 
-abbrev pub in_port : ℕ → Option (At (Named SplType)) → List PortAttribute
-in_port i None = []
-in_port i (Some a) = record { port = i; attribute = a.place; kind = a.what.kind } ∷ []
-
 -- the attributes of that name, at most one a port
 abbrev pub attributes_from : ℕ → List Port → List ℕ → List PortAttribute
 attributes_from i [] name = []
-attributes_from i (p ∷ ps) name = in_port i (attribute_of p.schema name) ++ attributes_from (suc i) ps name
+attributes_from i (p ∷ ps) name =
+    option_map_or (λ a. record { port = i; attribute = a.place; kind = a.what.kind } ∷ []) (attribute_of p.schema name) []
+    ++ attributes_from (suc i) ps name
 
 abbrev pub attributes_of : Scope → List ℕ → List PortAttribute
 attributes_of scope name = attributes_from 0 scope.ports name
-
--- the first port of the name
-abbrev pub port_of : Scope → List ℕ → Option (At Port)
-port_of scope name = first_from (λ p. bytes_eq p.name name) 0 scope.ports
 
 abbrev pub function_of : Scope → List ℕ → Option (At Signature)
 function_of scope name = first_from (λ f. bytes_eq f.name name) 0 scope.functions
@@ -82,19 +72,13 @@ pub data Meant : Type 0 where
   OfPort : At Port → Meant
   Nothing : Meant
 
-abbrev pub port_meant : Option (At Port) → Meant
-port_meant None = Nothing
-port_meant (Some p) = OfPort p
-
 abbrev pub attribute_meant : List PortAttribute → Option (At Port) → Meant
-attribute_meant [] port = port_meant port
+attribute_meant [] port = option_map_or OfPort port Nothing
 attribute_meant (a ∷ []) port = OfAttribute a
 attribute_meant (a ∷ b ∷ as') port = Nothing
 
--- a variable comes before an attribute, and that before a port
-abbrev pub variable_meant : Option (At Variable) → List PortAttribute → Option (At Port) → Meant
-variable_meant (Some v) attributes port = OfVariable v
-variable_meant None attributes port = attribute_meant attributes port
-
+-- a variable comes before an attribute, and that before the first port of the name
 abbrev pub meant : Scope → List ℕ → Meant
-meant scope name = variable_meant (variable_of scope name) (attributes_of scope name) (port_of scope name)
+meant scope name =
+    option_map_or OfVariable (variable_of scope name)
+    (attribute_meant (attributes_of scope name) (first_from (λ p. bytes_eq p.name name) 0 scope.ports))

@@ -12,7 +12,7 @@ use Rattle.spl_tree.specs.declared.graph.Expansion.{Expansion}
 use Rattle.spl_tree.specs.declared.graph.Op.{Op}
 use Rattle.spl_tree.specs.declared.graph.OpKind.{OpKind}
 use Rattle.spl_tree.specs.declared.unit.Definition.{Definition}
-use Rattle.spl_tree.specs.Trees.{Expr, placed}
+use Rattle.spl_tree.specs.Trees.{placed}
 use Rattle.language_model.specs.Declarations.{is_same}
 use Rattle.language_model.specs.DollarTargets.{followed, invocation_at, value_named}
 use Rattle.language_model.specs.Kinds.{rules_of}
@@ -22,37 +22,27 @@ abbrev pub level_text : ExprKind-F ExprKind → Option (List ℕ)
 level_text (X.Text bytes) = Some bytes
 level_text _ = None
 
-abbrev pub literal_text : Expr → Option (List ℕ)
-literal_text e = level_text (out-ExprKind e.what)
-
--- the text that it means in the body of the expansion at a number
-abbrev pub text_in : List Definition → List Expansion → ℕ → Expr → Option (List ℕ)
-text_in unit expansions number e = option_and_then literal_text (followed unit expansions number e)
-
--- the file of an operator: the text of its parameter `file`
+-- the file of an operator: the text that its parameter `file` means in the body of its expansion
 abbrev pub file_of : List Definition → List Expansion → Op → Option (List ℕ)
 file_of unit expansions op =
-    option_and_then (λ i. option_and_then (text_in unit expansions op.site.expansion) (value_named i.clauses.parameters (codes "file")))
-    (invocation_at unit expansions op.site)
+    option_and_then (λ i. option_and_then (λ e. option_and_then (λ x. level_text (out-ExprKind x.what)) (followed unit expansions op.site.expansion e))
+    (value_named i.clauses.parameters (codes "file"))) (invocation_at unit expansions op.site)
 
 -- ---- files that are had twice
 
--- an operator without outputs, and one without inputs
+-- an operator without outputs
 abbrev pub is_sink : OpKind → Bool
 is_sink kind = (rules_of kind).outputs.most == 0
-
-abbrev pub is_source : OpKind → Bool
-is_source kind = (rules_of kind).inputs.most == 0
 
 -- the file of a source or sink, at its invocation
 pub record OpFile : Type 0 where
   pub sink : Bool
   pub file : Placed (List ℕ)
 
--- a source or sink that has a file
+-- a sink, or a source, an operator without inputs, that has a file
 abbrev pub op_file : List Definition → List Expansion → Op → List OpFile
 op_file unit expansions op =
-    if is_sink op.kind || is_source op.kind
+    if is_sink op.kind || ((rules_of op.kind).inputs.most == 0)
     then option_map_or (λ bytes. record { sink = is_sink op.kind; file = placed op.at bytes } ∷ []) (file_of unit expansions op) []
     else []
 

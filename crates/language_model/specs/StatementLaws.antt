@@ -15,7 +15,8 @@ use Rattle.spl_tree.specs.declared.code.Code.{Code}
 use Rattle.spl_tree.specs.declared.code.Slot.{Slot}
 use Rattle.language_model.specs.declared.flow.Flow.TheVariants as F
 use Rattle.language_model.specs.Outcomes.{Done, followed, need}
-use Rattle.language_model.specs.Statements.{State, Acts, Bodies, value_in, truth_in, declared, scoped, submitted, change_acts, first_true, turns_while, turns_over, level_elements, level_tuple, call_acts, return_acts, level_acts, statement_acts, row_acts}
+use Rattle.language_model.specs.Statements.{State, Acts, Bodies, value_in, truth_in, declared, scoped, submitted, first_true, turns_while, turns_over, level_elements, level_tuple, level_acts}
+use Rattle.language_model.specs.parts.Statements.{change_acts, call_acts, return_acts, statement_acts, row_acts}
 
 module _ (bodies : Bodies) where
   -- the row after the first condition that is true

@@ -1,6 +1,7 @@
 -- The types of what statements have beside expressions: places that are changed, and calls whose value isn't used. Each is a code of
 -- statements in its scope, or has a first refusal.
 use Rattle.std.specs.Prelude.{◌==◌, ℕ, List, [], ◌∷◌, map, length, if◌then◌else◌, Option, Some, None, Ok}
+use Rattle.std.specs.Option.{option_map_or}
 use Rattle.spl_value.specs.declared.types.SplType.{SplType}
 use Rattle.spl_value.specs.declared.types.SplType.TheViews.{out-SplType}
 use Rattle.spl_tree.specs.Trees.{Expr}
@@ -37,19 +38,17 @@ pub record TypedPlace : Type 0 where
   pub place : Place
   pub kind : SplType
 
--- the place that a code reads, where it is one of a variable
+-- the place that a code reads, where it is a variable or what is taken of one
 abbrev pub level_variable : List (Selector (Code Slot)) → Code-F Slot (Code Slot) → Option Place
 level_variable takings (O.Name (L.Variable i)) = Some (record { variable = i; takings = takings })
 level_variable takings _ = None
 
 abbrev pub level_place : Code-F Slot (Code Slot) → Option Place
-level_place (O.Name (L.Variable i)) = Some (record { variable = i; takings = [] })
 level_place (O.Select base takings) = level_variable takings (out-Code Slot base)
-level_place _ = None
+level_place code = level_variable [] code
 
 abbrev pub place_given : ℕ → SplType → Option Place → Found TypedPlace
-place_given at t None = refused E.NotMutable at None
-place_given at t (Some place) = Ok (record { place = place; kind = t })
+place_given at t found = option_map_or (λ place. Ok (record { place = place; kind = t })) found (refused E.NotMutable at None)
 
 -- an expression that reads a place: a variable that may be changed, or what is taken of one in turn
 abbrev pub place_typing : Scope → Expr → Found TypedPlace
@@ -60,13 +59,11 @@ place_typing scope e =
 
 -- the value of the right side is of the type of what the place holds
 abbrev pub assignment_typing : Scope → Expr → Expr → Found Statement
-assignment_typing scope e right =
-    after (place_typing scope e) (λ x. after (typing scope right (Some x.kind)) (λ y. Ok (T.Change x.place (H.Put y.code))))
+assignment_typing scope e right = after (place_typing scope e) (λ x. after (typing scope right (Some x.kind)) (λ y. Ok (T.Change x.place (H.Put y.code))))
 
 -- `a op= b` is `a = a op b`, whose value is of the type of what the place holds
 abbrev pub compound_typing : Scope → BinaryOperator → Expr → Expr → Found Statement
-compound_typing scope op e right =
-    after (place_typing scope e) (λ x. after (typing scope e None) (λ t.
+compound_typing scope op e right = after (place_typing scope e) (λ x. after (typing scope e None) (λ t.
     after (operands_typed scope t (parted e) (parted right) (level_operator op (out-SplType t.kind))) (λ y.
     after (as_wanted e.at (Some x.kind) y) (λ z. Ok (T.Change x.place (H.Put z.code))))))
 
@@ -98,12 +95,9 @@ function_statement at scope name es None = not_callable at name (unresolved_of s
 function_statement at scope name es (Some f) =
     if length es == length f.what.parameters then after (arguments_typed scope f.what.parameters es) (λ xs. Ok (T.Call f.place xs)) else wrong_call at
 
-abbrev pub call_statement : ℕ → Scope → List ℕ → List (Placed Part) → Option CallName → Found Statement
-call_statement at scope name es (Some call) = built_in_statement at scope call es
-call_statement at scope name es None = function_statement at scope name es (function_of scope name)
-
 abbrev pub level_call : ℕ → Scope → ExprKind-F ExprKind → Found Statement
-level_call at scope (X.Call name es) = call_statement at scope name (map parted es) (call_of name)
+level_call at scope (X.Call name es) = option_map_or (λ call. built_in_statement at scope call (map parted es)) (call_of name)
+    (function_statement at scope name (map parted es) (function_of scope name))
 level_call at scope _ = wrong_call at
 
 -- a call as a statement

@@ -1,6 +1,7 @@
 -- What statements do: from the variables, the submits so far and the turns that there are, they lead to others and to a way on. A
 -- turn of a loop takes one of the turns, as a call of a function does.
 use Rattle.std.specs.Prelude.{ℕ, zero, suc, Bool, if◌then◌else◌, List, [], ◌∷◌, ◌++◌, map, length, take, Option, None, Some, slice_get, slice_set}
+use Rattle.std.specs.Option.{option_map_or}
 use Rattle.spl_value.specs.declared.item.FaultKind.TheVariants as K
 use Rattle.spl_value.specs.declared.item.Item.{Item}
 use Rattle.spl_value.specs.declared.item.Item.TheVariants as I
@@ -61,11 +62,8 @@ abbrev pub declared : State → Value → State
 declared s v = with_vars s (s.env.vars ++ v ∷ [])
 
 -- the variables that were declared after a state end, and those that it had stay
-abbrev pub ended : State → State → State
-ended before s = with_vars s (take (length before.env.vars) s.env.vars)
-
 abbrev pub scoped : Acts → Acts
-scoped acts s turns = followed (acts s turns) (λ w turns. Done (w.0, ended s w.1) turns)
+scoped acts s turns = followed (acts s turns) (λ w turns. Done (w.0, with_vars w.1 (take (length s.env.vars) w.1.env.vars)) turns)
 
 abbrev pub submitted : State → ℕ → Item → State
 submitted s port item = record { env = s.env; submits = s.submits ++ record { port = port; item = item } ∷ [] }
@@ -78,11 +76,6 @@ step_value bodies (T.Member i) s turns = Done (T.Member i) turns
 step_value bodies (T.Element code) s turns = followed (value_in bodies code s turns) (λ v turns. Done (T.Element v) turns)
 step_value bodies (T.AtKey code) s turns = followed (value_in bodies code s turns) (λ v turns. Done (T.AtKey v) turns)
 
--- from left to right; nothing is looked up
-abbrev pub step_values : Bodies → List (Selector (Code Slot)) → State → ℕ → Outcome (List (Selector Value))
-step_values bodies [] s turns = Done [] turns
-step_values bodies (t ∷ ts) s turns = followed (step_value bodies t s turns) (λ step turns. followed (step_values bodies ts s turns) (λ steps turns. Done (step ∷ steps) turns))
-
 -- the same as in an expression: each step is taken of what the steps before it give
 abbrev pub steps_taken : Bodies → List (Selector (Code Slot)) → Value → State → ℕ → Outcome (List (Selector Value))
 steps_taken bodies [] v s turns = Done [] turns
@@ -91,12 +84,6 @@ steps_taken bodies (t ∷ ts) v s turns =
     followed (settled (step_of step v) turns) (λ u turns.
     followed (steps_taken bodies ts u s turns) (λ steps turns. Done (step ∷ steps) turns)))
 
--- the variables where what the steps take of one is changed
-abbrev pub changed_at : ℕ → List (Selector Value) → Change Value → State → ℕ → Outcome (Flow × State)
-changed_at i steps change s turns =
-    need (slice_get s.env.vars i) (λ old.
-    followed (settled (changed steps (change_of change) (Some old)) turns) (λ new turns. Done (F.Next, with_vars s (slice_set s.env.vars i new)) turns))
-
 -- a change with the value of its argument
 abbrev pub change_value : Bodies → Change (Code Slot) → State → ℕ → Outcome (Change Value)
 change_value bodies (H.Put code) s turns = followed (value_in bodies code s turns) (λ v turns. Done (H.Put v) turns)
@@ -104,20 +91,16 @@ change_value bodies (H.Append code) s turns = followed (value_in bodies code s t
 change_value bodies (H.Remove code) s turns = followed (value_in bodies code s turns) (λ v turns. Done (H.Remove v) turns)
 change_value bodies H.Clear s turns = Done H.Clear turns
 
--- an assignment evaluates its right side, and then the indexes and keys of the place. Every other change is a call, which evaluates the
--- place and then its argument, as a call in an expression does
+-- an assignment evaluates its right side, and then the indexes and keys of the place from left to right; nothing is looked up. Every other
+-- change is a call, which evaluates the place and then its argument, as a call in an expression does
 abbrev pub change_values : Bodies → Place → Change (Code Slot) → State → ℕ → Outcome (List (Selector Value) × Change Value)
 change_values bodies place (H.Put code) s turns =
     followed (change_value bodies (H.Put code) s turns) (λ change turns.
-    followed (step_values bodies place.takings s turns) (λ steps turns. Done (steps, change) turns))
+    followed (all_of (map (step_value bodies) place.takings) s turns) (λ steps turns. Done (steps, change) turns))
 change_values bodies place change s turns =
     need (slice_get s.env.vars place.variable) (λ v.
     followed (steps_taken bodies place.takings v s turns) (λ steps turns.
     followed (change_value bodies change s turns) (λ change turns. Done (steps, change) turns)))
-
-abbrev pub change_acts : Bodies → Place → Change (Code Slot) → Acts
-change_acts bodies place change s turns =
-    followed (change_values bodies place change s turns) (λ w turns. changed_at place.variable w.0 w.1 s turns)
 
 -- ---- rows
 
@@ -174,38 +157,31 @@ abbrev pub level_tuple : Value-F Value → Option (List Value)
 level_tuple (O.Tuple vs) = Some vs
 level_tuple _ = None
 
--- what a function returns isn't used
-abbrev pub call_acts : Bodies → ℕ → List (Code Slot) → Acts
-call_acts bodies i codes s turns =
-    followed (all_of (map (code_value (calls_by bodies)) codes) (world_of s.env) turns) (λ values turns.
-    enter turns (λ turns. followed (bodies i values turns) (λ returned turns. Done (F.Next, s) turns)))
-
-abbrev pub return_acts : Bodies → Option (Code Slot) → Acts
-return_acts bodies None s turns = Done (F.Returned None, s) turns
-return_acts bodies (Some code) s turns = followed (value_in bodies code s turns) (λ v turns. Done (F.Returned (Some v), s) turns)
-
+-- what a statement does, from what the statements in it do. A change changes what the steps of its place take of the variable; what a
+-- function that is called by a statement returns isn't used
 abbrev pub level_acts : Bodies → Statement-F Acts → Acts
 level_acts bodies (S.Block row) s turns = scoped (in_order row) s turns
 level_acts bodies (S.Declare code) s turns = followed (value_in bodies code s turns) (λ v turns. Done (F.Next, declared s v) turns)
-level_acts bodies (S.Change place change) s turns = change_acts bodies place change s turns
+level_acts bodies (S.Change place change) s turns =
+    followed (change_values bodies place change s turns) (λ w turns.
+    need (slice_get s.env.vars place.variable) (λ old.
+    followed (settled (changed w.0 (change_of w.1) (Some old)) turns) (λ new turns.
+    Done (F.Next, with_vars s (slice_set s.env.vars place.variable new)) turns)))
 level_acts bodies (S.Evaluate code) s turns = followed (value_in bodies code s turns) (λ v turns. Done (F.Next, s) turns)
-level_acts bodies (S.Call i codes) s turns = call_acts bodies i codes s turns
+level_acts bodies (S.Call i codes) s turns =
+    followed (all_of (map (code_value (calls_by bodies)) codes) (world_of s.env) turns) (λ values turns.
+    enter turns (λ turns. followed (bodies i values turns) (λ returned turns. Done (F.Next, s) turns)))
 level_acts bodies (S.If arms other) s turns = first_true bodies arms other s turns
 level_acts bodies (S.While code row) s turns = turns_while turns bodies code (scoped (in_order row)) s turns
 level_acts bodies (S.For code row) s turns =
     followed (value_in bodies code s turns) (λ v turns. need (level_elements (out-Value v)) (λ values. turns_over values (in_order row) s turns))
 level_acts bodies S.Break s turns = Done (F.Broken, s) turns
 level_acts bodies S.Continue s turns = Done (F.Continued, s) turns
-level_acts bodies (S.Return code) s turns = return_acts bodies code s turns
+level_acts bodies (S.Return code) s turns =
+    option_map_or (λ code. followed (value_in bodies code s turns) (λ v turns. Done (F.Returned (Some v), s) turns)) code (Done (F.Returned None, s) turns)
 level_acts bodies (S.Submit port code) s turns =
     followed (value_in bodies code s turns) (λ v turns. need (level_tuple (out-Value v)) (λ values. Done (F.Next, submitted s port (I.Tuple values)) turns))
 level_acts bodies (S.SubmitWindow port) s turns = Done (F.Next, submitted s port I.Window) turns
-
-abbrev pub statement_acts : Bodies → Statement → Acts
-statement_acts bodies = fold-Statement Acts (level_acts bodies)
-
-abbrev pub row_acts : Bodies → List Statement → Acts
-row_acts bodies row = in_order (map (statement_acts bodies) row)
 
 -- ---- bodies
 
@@ -221,8 +197,7 @@ returned_by F.Next = Some None
 returned_by (F.Returned v) = Some v
 returned_by _ = None
 
-abbrev pub left_by : Flow × State → ℕ → Outcome Left
-left_by w turns = need (returned_by w.0) (λ v. Done (record { vars = w.1.env.vars; submits = w.1.submits; returned = v }) turns)
-
 abbrev pub body_leaves : Bodies → List Statement → Env → ℕ → Outcome Left
-body_leaves bodies row env turns = followed (scoped (row_acts bodies row) (record { env = env; submits = [] }) turns) left_by
+body_leaves bodies row env turns =
+    followed (scoped (in_order (map (fold-Statement Acts (level_acts bodies)) row)) (record { env = env; submits = [] }) turns) (λ w turns.
+    need (returned_by w.0) (λ v. Done (record { vars = w.1.env.vars; submits = w.1.submits; returned = v }) turns))

@@ -20,8 +20,7 @@ next_from streams taken n (op ∷ ops) = if not (is_taken taken n) && is_ready s
 -- one after another, at most this number of them
 abbrev pub taken_on : ℕ → List Stream → List Op → List ℕ → List ℕ
 taken_on zero streams ops taken = taken
-taken_on (suc count) streams ops taken =
-    option_map_or (λ n. taken_on count streams ops (taken ++ n ∷ [])) (next_from streams taken 0 ops) taken
+taken_on (suc count) streams ops taken = option_map_or (λ n. taken_on count streams ops (taken ++ n ∷ [])) (next_from streams taken 0 ops) taken
 
 abbrev pub taken : List Stream → List Op → List ℕ
 taken streams ops = taken_on (length ops) streams ops []

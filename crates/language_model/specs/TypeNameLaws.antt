@@ -1,7 +1,8 @@
 -- What a name means among definitions of types.
 use Rattle.std.specs.Prelude.{◌≡◌, ℕ, List}
 use Rattle.spl_tree.specs.declared.unit.TypeDefinition.{TypeDefinition}
-use Rattle.language_model.specs.TypeNames.{Types, definition_of, defined_type, types_of}
+use Rattle.language_model.specs.TypeNames.{Types, definition_of, types_of}
+use Rattle.language_model.specs.parts.TypeNames.{defined_type}
 
 -- ---- names among definitions
 

@@ -1,6 +1,6 @@
 -- What types mean as they are written, or the first refusal in them, in the order of the text. A name means the shape of its
 -- definition: one of the composite, or else one of the unit.
-use Rattle.std.specs.Prelude.{ℕ, zero, suc, Bool, List, [], ◌∷◌, ◌++◌, map, flat_map, filter_map, length, if◌then◌else◌, Option, Some, None, Ok, slice_get}
+use Rattle.std.specs.Prelude.{ℕ, zero, suc, List, [], ◌∷◌, ◌++◌, map, flat_map, filter_map, length, if◌then◌else◌, Option, Some, None, Ok, slice_get}
 use Rattle.std.specs.Option.{option_map, option_map_or}
 use Rattle.std.specs.Str.{bytes_eq}
 use Rattle.spl_value.specs.declared.types.Named.{Named}
@@ -77,26 +77,20 @@ shape_meant types shape = kind_meant types shape.what
 
 -- ---- names in types
 
-abbrev pub Names : Type 0
-Names = List (List ℕ)
-
 -- the names that stand in a type
-abbrev pub level_names : TypeKind-F Names → Names
+abbrev pub level_names : TypeKind-F (List (List ℕ)) → List (List ℕ)
 level_names (Y.Name name) = name ∷ []
 level_names (Y.List t) = t.what
 level_names (Y.Map k t) = k.what ++ t.what
 level_names (Y.Tuple attributes) = flat_map (λ a. a.kind.what) attributes
 level_names _ = []
 
-abbrev pub type_names : TypeExpr → Names
-type_names t = fold-TypeKind Names level_names t.what
+abbrev pub type_names : TypeExpr → List (List ℕ)
+type_names t = fold-TypeKind (List (List ℕ)) level_names t.what
 
-abbrev pub kind_names : ShapeKind → Names
+abbrev pub kind_names : ShapeKind → List (List ℕ)
 kind_names (H.Type t) = type_names t
 kind_names (H.Attributes attributes) = flat_map (λ a. type_names a.kind) attributes
-
-abbrev pub shape_names : Shape → Names
-shape_names shape = kind_names shape.what
 
 -- ---- definitions
 
@@ -106,23 +100,15 @@ definition_of definitions name = first_from (λ d. bytes_eq d.name.what name) 0 
 
 -- the places of the definitions whose names stand in the one at a place
 abbrev pub leads_to : List TypeDefinition → ℕ → List ℕ
-leads_to definitions place =
-    option_map_or (λ d. filter_map (λ name. option_map (λ e. e.place) (definition_of definitions name)) (shape_names d.shape)) (slice_get definitions place) []
+leads_to definitions place = option_map_or (λ d. filter_map (λ name. option_map (λ e. e.place) (definition_of definitions name)) (kind_names d.shape.what))
+    (slice_get definitions place) []
 
--- the definition at a place leads back to itself
-abbrev pub is_circular : List TypeDefinition → ℕ → Bool
-is_circular definitions place = leads_back (length definitions) (leads_to definitions) place
-
--- a name that has no definition here means what it does outside, and one whose definition leads back to itself means nothing
-abbrev pub defined_type : List TypeDefinition → Types → Types → ℕ → List ℕ → Option (At TypeDefinition) → Found SplType
-defined_type definitions outside inside at name None = outside at name
-defined_type definitions outside inside at name (Some d) = if is_circular definitions d.place then unknown at name else shape_meant inside d.what.shape
-
--- definitions are followed at most this number of times
+-- a name that has no definition here means what it does outside, and one whose definition leads back to itself means nothing. Definitions
+-- are followed at most this number of times
 abbrev pub types_within : ℕ → List TypeDefinition → Types → Types
 types_within zero definitions outside at name = unknown at name
-types_within (suc count) definitions outside at name =
-    defined_type definitions outside (types_within count definitions outside) at name (definition_of definitions name)
+types_within (suc count) definitions outside at name = option_map_or (λ d. if leads_back (length definitions) (leads_to definitions) d.place
+    then unknown at name else shape_meant (types_within count definitions outside) d.what.shape) (definition_of definitions name) (outside at name)
 
 -- what names mean where these are defined. A row of definitions none of which leads back to itself is no longer than there are
 abbrev pub types_of : List TypeDefinition → Types → Types

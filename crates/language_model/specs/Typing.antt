@@ -3,10 +3,9 @@
 -- except that a literal whose form the wanted type doesn't have, and a call with another number of arguments than the
 -- called one takes, are refused before their parts.
 use Rattle.std.specs.Prelude.{ℕ, suc, pos, nat_lt, Bool, true, false, ◌&&◌, not, List, [], ◌∷◌, length, if◌then◌else◌, codes, Option, Some, None, is_some, Result, Ok, Err, ◌==◌}
-use Rattle.std.specs.List.{list_all}
+use Rattle.std.specs.List.{list_all, zip}
 use Rattle.std.specs.Cmp.Lexicographic.{pointwise}
 use Rattle.std.specs.Str.{bytes_eq}
-use Rattle.spl_value.specs.declared.types.IntKind.{IntKind}
 use Rattle.spl_value.specs.declared.types.IntKind.TheVariants.{I32}
 use Rattle.spl_value.specs.declared.types.Named.{Named}
 use Rattle.spl_value.specs.declared.types.SplType.{SplType}
@@ -52,7 +51,7 @@ use Rattle.spl_tree.specs.declared.code.BuiltIn.{BuiltIn}
 use Rattle.spl_tree.specs.declared.code.BuiltIn.TheVariants as Q
 use Rattle.spl_tree.specs.declared.code.CallName.{CallName}
 use Rattle.spl_tree.specs.declared.code.CallName.TheVariants as A
-use Rattle.std.specs.Option.{option_map_or}
+use Rattle.std.specs.Option.{option_map, option_map_or, option_or}
 use Rattle.spl_tree.specs.declared.code.Marker.{Marker}
 use Rattle.language_model.specs.declared.scope.Scope.{Scope}
 use Rattle.language_model.specs.declared.scope.Signature.{Signature}
@@ -61,6 +60,7 @@ use Rattle.language_model.specs.declared.scope.CheckError.{CheckError}
 use Rattle.language_model.specs.declared.scope.CheckError.TheVariants as E
 use Rattle.language_model.specs.declared.scope.CheckRefusal.{CheckRefusal}
 pub use Rattle.language_model.specs.After.{after}
+use Rattle.language_model.specs.After.{each}
 use Rattle.language_model.specs.Readings.{asks_punct, name_of, named_marker, root_of}
 use Rattle.language_model.specs.Scopes.{At, Meant, OfVariable, OfAttribute, OfPort, Nothing, meant, attribute_of, dollar_of, function_of, unresolved_of, variable_of}
 
@@ -123,11 +123,6 @@ meant_typed at name (OfAttribute a) = Ok (typed a.kind (C.Name (L.Attribute a.po
 meant_typed at name (OfPort p) = Ok (typed (S.Tuple p.what.schema) (C.Name (L.Port p.place)))
 meant_typed at name Nothing = unknown at name
 
--- a `$` parameter is what its name means
-abbrev pub dollar_typed : ℕ → List ℕ → Option (Found Typed) → Found Typed
-dollar_typed at name None = unknown at name
-dollar_typed at name (Some found) = found
-
 -- ---- literals
 
 -- a number, which has to be one of its type. Each that is read from text is
@@ -142,34 +137,26 @@ pub data Wants (A : Type 0) : Type 0 where
   This : A → Wants A
   Another : Wants A
 
+-- the form of a literal in the wanted type: the type of the elements of a list, those of the keys and values of a map, and the
+-- attributes of a tuple
 abbrev pub level_element : SplType-F SplType → Wants SplType
 level_element (T.List t) = This t
 level_element _ = Another
-
-abbrev pub wants_list : Wanted → Wants SplType
-wants_list None = Anything
-wants_list (Some t) = level_element (out-SplType t)
 
 abbrev pub level_pair : SplType-F SplType → Wants (SplType × SplType)
 level_pair (T.Map k t) = This (k, t)
 level_pair _ = Another
 
-abbrev pub wants_map : Wanted → Wants (SplType × SplType)
-wants_map None = Anything
-wants_map (Some t) = level_pair (out-SplType t)
-
 abbrev pub level_schema : SplType-F SplType → Wants (List (Named SplType))
 level_schema (T.Tuple schema) = This schema
 level_schema _ = Another
 
-abbrev pub wants_tuple : Wanted → Wants (List (Named SplType))
-wants_tuple None = Anything
-wants_tuple (Some t) = level_schema (out-SplType t)
+abbrev pub wants : {A : Type 0} → (SplType-F SplType → Wants A) → Wanted → Wants A
+wants level wanted = option_map_or (λ t. level (out-SplType t)) wanted Anything
 
 -- elements that all have to be of one type
 abbrev pub elements_typed : Scope → SplType → List (Placed Part) → Found (List (Code Slot))
-elements_typed scope t [] = Ok []
-elements_typed scope t (e ∷ es) = after (part_typed e scope (Some t)) (λ x. after (elements_typed scope t es) (λ xs. Ok (x.code ∷ xs)))
+elements_typed scope t es = each (λ e. part_typed e scope (Some t)) (λ x. x.code) es
 
 -- where no type is wanted, that of the first one is wanted of the others
 abbrev pub list_typed : ℕ → Scope → Wants SplType → List (Placed Part) → Found Typed
@@ -201,14 +188,11 @@ are_distinct (f ∷ fs) = list_all (λ g. not (bytes_eq g.name.what f.name.what)
 abbrev pub gives_each : List (Named SplType) → List (Field (Placed Part)) → Bool
 gives_each schema fs = are_distinct fs && list_all (λ f. is_some (attribute_of schema f.name.what)) fs && (length fs == length schema)
 
-abbrev pub field_typed : Scope → List (Named SplType) → Field (Placed Part) → Option (At (Named SplType)) → Found (ℕ × Code Slot)
-field_typed scope schema f None = mismatch f.value.at
-field_typed scope schema f (Some a) = after (part_typed f.value scope (Some a.what.kind)) (λ x. Ok (a.place, x.code))
-
+-- a field is of the type of the attribute of its name
 abbrev pub fields_typed : Scope → List (Named SplType) → List (Field (Placed Part)) → Found (List (ℕ × Code Slot))
-fields_typed scope schema [] = Ok []
-fields_typed scope schema (f ∷ fs) =
-    after (field_typed scope schema f (attribute_of schema f.name.what)) (λ x. after (fields_typed scope schema fs) (λ xs. Ok (x ∷ xs)))
+fields_typed scope schema fs =
+    each (λ f. option_map_or (λ a. after (part_typed f.value scope (Some a.what.kind)) (λ x. Ok (a.place, x.code)))
+    (attribute_of schema f.name.what) (mismatch f.value.at)) (λ x. x) fs
 
 -- fields as they stand, from a place of the tuple on, with their types
 abbrev pub own_fields : Scope → ℕ → List (Field (Placed Part)) → Found (List (Named SplType) × List (ℕ × Code Slot))
@@ -230,13 +214,10 @@ abbrev pub level_index : ℕ → Code Slot → SplType-F SplType → Found (Code
 level_index at code (T.Int k) = Ok code
 level_index at code _ = mismatch at
 
-abbrev pub member_typed : ℕ → List ℕ → Option (At (Named SplType)) → Found (Selector (Code Slot) × SplType)
-member_typed at name None = unknown at name
-member_typed at name (Some a) = Ok (K.Member a.place, a.what.kind)
-
 -- one step from a value of a type, whose expression begins at a place
 abbrev pub level_step : ℕ → Scope → SplType-F SplType → Step (Placed Part) → Found (Selector (Code Slot) × SplType)
-level_step base scope (T.Tuple schema) (N.Member m) = member_typed m.at m.what (attribute_of schema m.what)
+level_step base scope (T.Tuple schema) (N.Member m) =
+    option_map_or (λ a. Ok (K.Member a.place, a.what.kind)) (attribute_of schema m.what) (unknown m.at m.what)
 level_step base scope (T.List t) (N.Index e) =
     after (part_typed e scope None) (λ x. after (level_index e.at x.code (out-SplType x.kind)) (λ code. Ok (K.Element code, t)))
 level_step base scope (T.Map k t) (N.Index e) = after (part_typed e scope (Some k)) (λ x. Ok (K.AtKey x.code, t))
@@ -256,19 +237,12 @@ selected base (x ∷ xs) = C.Select base (x ∷ xs)
 abbrev pub select_typed : ℕ → Scope → Typed → List (Step (Placed Part)) → Found Typed
 select_typed base scope x steps = after (steps_typed base scope x.kind steps) (λ xs. Ok (typed xs.1 (selected x.code xs.0)))
 
--- an attribute of a port that is named, `Port.attribute`, has the code of the attribute
-abbrev pub port_attribute : ℕ → ℕ → List ℕ → Option (At (Named SplType)) → Found Typed
-port_attribute port at name None = unknown at name
-port_attribute port at name (Some a) = Ok (typed a.what.kind (C.Name (L.Attribute port a.place)))
-
+-- of a base with this meaning; an attribute of a port that is named, `Port.attribute`, has the code of the attribute
 abbrev pub of_port : Meant → Placed Part → Scope → List (Step (Placed Part)) → Found Typed
 of_port (OfPort p) base scope (N.Member m ∷ steps) =
-    after (port_attribute p.place m.at m.what (attribute_of p.what.schema m.what)) (λ x. select_typed base.at scope x steps)
+    after (option_map_or (λ a. Ok (typed a.what.kind (C.Name (L.Attribute p.place a.place)))) (attribute_of p.what.schema m.what) (unknown m.at m.what))
+    (λ x. select_typed base.at scope x steps)
 of_port _ base scope steps = after (part_typed base scope None) (λ x. select_typed base.at scope x steps)
-
-abbrev pub of_base : Option (List ℕ) → Placed Part → Scope → List (Step (Placed Part)) → Found Typed
-of_base (Some name) base scope steps = of_port (meant scope name) base scope steps
-of_base None base scope steps = after (part_typed base scope None) (λ x. select_typed base.at scope x steps)
 
 -- ---- operators in front of an operand, and casts
 
@@ -282,10 +256,6 @@ level_prefix (P.Cast G.Text) (T.Int j) = Some (U.ToText, S.Text)
 level_prefix (P.Cast G.Text) T.Bool = Some (U.ToText, S.Text)
 level_prefix _ _ = None
 
-abbrev pub prefix_typed : ℕ → Option (UnaryCode × SplType) → Found (UnaryCode × SplType)
-prefix_typed operand None = mismatch operand
-prefix_typed operand (Some x) = Ok x
-
 -- where prefixes and their operand begin
 abbrev pub prefixes_at : List (Placed PrefixOperator) → ℕ → ℕ
 prefixes_at [] operand = operand
@@ -295,10 +265,8 @@ prefixes_at (p ∷ ps) operand = p.at
 abbrev pub prefixes_typed : List (Placed PrefixOperator) → ℕ → SplType → Found (List UnaryCode × SplType)
 prefixes_typed [] operand t = Ok ([], t)
 prefixes_typed (p ∷ ps) operand t =
-    after (prefixes_typed ps operand t) (λ xs. after (prefix_typed (prefixes_at ps operand) (level_prefix p.what (out-SplType xs.1))) (λ x. Ok (x.0 ∷ xs.0, x.1)))
-
-abbrev pub unary_typed : Scope → List (Placed PrefixOperator) → Placed Part → Found Typed
-unary_typed scope ps e = after (part_typed e scope None) (λ x. after (prefixes_typed ps e.at x.kind) (λ xs. Ok (typed xs.1 (C.Unary xs.0 x.code))))
+    after (prefixes_typed ps operand t) (λ xs.
+    after (option_map_or (λ x. Ok x) (level_prefix p.what (out-SplType xs.1)) (mismatch (prefixes_at ps operand))) (λ x. Ok (x.0 ∷ xs.0, x.1)))
 
 -- ---- operators between two operands
 
@@ -320,32 +288,24 @@ order_operator B.Greater = Some O.Greater
 order_operator B.GreaterOrEqual = Some O.GreaterOrEqual
 order_operator _ = None
 
+-- the orders are on integers and texts
+abbrev pub ordering : BinaryOperator → Option (BinaryCode × SplType)
+ordering op = option_map (λ o. (D.Order o, S.Bool)) (order_operator op)
+
 -- an operator whose operands are of one type: what it is on a left operand of a type, with the type that it gives
-abbrev pub on_integers : IntKind → Option IntegerOperator → Option (BinaryCode × SplType)
-on_integers k None = None
-on_integers k (Some op) = Some (D.Integers op k, S.Int k)
-
-abbrev pub ordering_of : Option OrderOperator → Option (BinaryCode × SplType)
-ordering_of None = None
-ordering_of (Some op) = Some (D.Order op, S.Bool)
-
-abbrev pub or_else : {A : Type 0} → Option A → Option A → Option A
-or_else None y = y
-or_else (Some x) y = Some x
-
 abbrev pub level_operator : BinaryOperator → SplType-F SplType → Option (BinaryCode × SplType)
 level_operator B.Equal _ = Some (D.Equal, S.Bool)
 level_operator B.NotEqual _ = Some (D.NotEqual, S.Bool)
 level_operator B.And T.Bool = Some (D.And, S.Bool)
 level_operator B.Or T.Bool = Some (D.Or, S.Bool)
 level_operator B.Add T.Text = Some (D.Join, S.Text)
-level_operator op (T.Int k) = or_else (on_integers k (integer_operator op)) (ordering_of (order_operator op))
-level_operator op T.Text = ordering_of (order_operator op)
+level_operator op (T.Int k) = option_or (option_map (λ o. (D.Integers o k, S.Int k)) (integer_operator op)) (ordering op)
+level_operator op T.Text = ordering op
 level_operator _ _ = None
 
 abbrev pub operands_typed : Scope → Typed → Placed Part → Placed Part → Option (BinaryCode × SplType) → Found Typed
-operands_typed scope x left right None = mismatch left.at
-operands_typed scope x left right (Some op) = after (part_typed right scope (Some x.kind)) (λ y. Ok (typed op.1 (C.Binary op.0 x.code y.code)))
+operands_typed scope x left right on =
+    option_map_or (λ op. after (part_typed right scope (Some x.kind)) (λ y. Ok (typed op.1 (C.Binary op.0 x.code y.code)))) on (mismatch left.at)
 
 -- a value is looked for in a list of its type, or in a map with keys of its type
 abbrev pub level_in : Typed → Code Slot → ℕ → SplType-F SplType → Found Typed
@@ -365,60 +325,42 @@ marker_asked true B.Equal (Some m) = Some (C.IsMarker m)
 marker_asked true B.NotEqual (Some m) = Some (C.IsNotMarker m)
 marker_asked _ _ _ = None
 
-abbrev pub binary_or_marker : Option (Code Slot) → Scope → BinaryOperator → Placed Part → Placed Part → Found Typed
-binary_or_marker (Some code) scope op left right = Ok (typed S.Bool code)
-binary_or_marker None scope op left right = binary_typed scope op left right
-
 -- ---- the conditional
 
 -- where no type is wanted, that of the first branch is wanted of the second
-abbrev pub branch_wanted : Wanted → SplType → Wanted
-branch_wanted None t = Some t
-branch_wanted (Some u) t = Some u
-
 abbrev pub conditional_typed : Scope → Wanted → Placed Part → Placed Part → Placed Part → Found Typed
 conditional_typed scope wanted c a b =
     after (part_typed c scope (Some S.Bool)) (λ x. after (part_typed a scope wanted) (λ y.
-    after (part_typed b scope (branch_wanted wanted y.kind)) (λ z. Ok (typed y.kind (C.Conditional x.code y.code z.code)))))
+    after (part_typed b scope (option_or wanted (Some y.kind))) (λ z. Ok (typed y.kind (C.Conditional x.code y.code z.code)))))
 
 -- ---- calls
 
 -- arguments of these types; there are as many
 abbrev pub arguments_typed : Scope → List SplType → List (Placed Part) → Found (List (Code Slot))
-arguments_typed scope (t ∷ ts) (e ∷ es) = after (part_typed e scope (Some t)) (λ x. after (arguments_typed scope ts es) (λ xs. Ok (x.code ∷ xs)))
-arguments_typed scope _ _ = Ok []
-
--- a call gives a value of a type, or nothing
-abbrev pub value_given : ℕ → Option SplType → Code Slot → Found Typed
-value_given at None code = mismatch at
-value_given at (Some t) code = Ok (typed t code)
+arguments_typed scope ts es = each (λ p. part_typed p.1 scope (Some p.0)) (λ x. x.code) (zip ts es)
 
 -- no function of the scope has the name: it has no meaning, or there is one whose types are refused
 abbrev pub not_callable : {A : Type 0} → ℕ → List ℕ → Option CheckRefusal → Found A
-not_callable at name None = unknown at name
-not_callable at name (Some refusal) = Err refusal
+not_callable at name refusal = option_map_or (λ r. Err r) refusal (unknown at name)
 
+-- a call of a function gives a value of its type, or nothing
 abbrev pub function_typed : ℕ → Scope → List ℕ → List (Placed Part) → Option (At Signature) → Found Typed
-function_typed at scope name es None = not_callable at name (unresolved_of scope name)
-function_typed at scope name es (Some f) =
-    if length es == length f.what.parameters then after (arguments_typed scope f.what.parameters es) (λ xs. value_given at f.what.result (C.Call f.place xs))
-    else wrong_call at
+function_typed at scope name es found =
+    option_map_or (λ f. if length es == length f.what.parameters
+    then after (arguments_typed scope f.what.parameters es) (λ xs. option_map_or (λ t. Ok (typed t (C.Call f.place xs))) f.what.result (mismatch at))
+    else wrong_call at) found (not_callable at name (unresolved_of scope name))
+
+-- what a table gives for a word, or `d` where the word isn't in it
+abbrev pub looked_up : {A : Type 0} → A → List (List ℕ × A) → List ℕ → A
+looked_up d [] word = d
+looked_up d (x ∷ xs) word = if bytes_eq word x.0 then x.1 else looked_up d xs word
 
 -- the call that has this name
 abbrev pub call_of : List ℕ → Option CallName
 call_of name =
-    if bytes_eq name (codes "length") then Some A.Length
-    else (if bytes_eq name (codes "size") then Some A.Size
-    else (if bytes_eq name (codes "has") then Some A.Has
-    else (if bytes_eq name (codes "appendM") then Some A.AppendM
-    else (if bytes_eq name (codes "removeM") then Some A.RemoveM
-    else (if bytes_eq name (codes "clearM") then Some A.ClearM
-    else (if bytes_eq name (codes "abs") then Some A.Abs
-    else (if bytes_eq name (codes "min") then Some A.Min
-    else (if bytes_eq name (codes "max") then Some A.Max
-    else (if bytes_eq name (codes "substring") then Some A.Substring
-    else (if bytes_eq name (codes "currentPunct") then Some A.CurrentPunct
-    else None))))))))))
+    looked_up None ((codes "length", Some A.Length) ∷ (codes "size", Some A.Size) ∷ (codes "has", Some A.Has) ∷ (codes "appendM", Some A.AppendM)
+    ∷ (codes "removeM", Some A.RemoveM) ∷ (codes "clearM", Some A.ClearM) ∷ (codes "abs", Some A.Abs) ∷ (codes "min", Some A.Min)
+    ∷ (codes "max", Some A.Max) ∷ (codes "substring", Some A.Substring) ∷ (codes "currentPunct", Some A.CurrentPunct) ∷ []) name
 
 abbrev pub int32 : SplType
 int32 = S.Int I32
@@ -439,10 +381,6 @@ level_first A.Max t (T.Int k) = Some (Q.Max, t, t ∷ [])
 level_first A.Max t T.Text = Some (Q.Max, t, t ∷ [])
 level_first _ t _ = None
 
-abbrev pub first_typed : ℕ → Scope → Code Slot → List (Placed Part) → OnFirst → Found Typed
-first_typed at scope x es None = wrong_call at
-first_typed at scope x es (Some on) = after (arguments_typed scope on.2 es) (λ xs. Ok (typed on.1 (C.BuiltIn on.0 (x ∷ xs))))
-
 -- a call that changes its first argument: the types that the others have to have
 abbrev pub level_changed : CallName → SplType-F SplType → Option (List SplType)
 level_changed A.AppendM (T.List e) = Some (e ∷ [])
@@ -456,12 +394,11 @@ is_mutable scope name = option_map_or (λ v. v.what.mutable) (variable_of scope 
 
 -- the argument is a place, and its variable may be changed
 abbrev pub if_mutable : {A : Type 0} → ℕ → Scope → Placed Part → Option (List ℕ) → Found A → Found A
-if_mutable at scope e None found = wrong_call at
-if_mutable at scope e (Some name) found = if is_mutable scope name then found else refused E.NotMutable e.at None
+if_mutable at scope e root found = option_map_or (λ name. if is_mutable scope name then found else refused E.NotMutable e.at None) root (wrong_call at)
 
 abbrev pub changed_typed : ℕ → Scope → Placed Part → List (Placed Part) → Option (List SplType) → Found (List (Code Slot))
-changed_typed at scope e es None = wrong_call at
-changed_typed at scope e es (Some types) = if_mutable at scope e (root_of e.what.0) (arguments_typed scope types es)
+changed_typed at scope e es wanted =
+    option_map_or (λ types. if_mutable at scope e (root_of e.what.0) (arguments_typed scope types es)) wanted (wrong_call at)
 
 -- how many arguments a call has
 abbrev pub argument_count : CallName → ℕ
@@ -491,34 +428,37 @@ arguments_of at scope A.CurrentPunct es = wrong_call at
 arguments_of at scope A.AppendM (e ∷ es) = no_value at (after (part_typed e scope None) (λ x. changed_typed at scope e es (level_changed A.AppendM (out-SplType x.kind))))
 arguments_of at scope A.RemoveM (e ∷ es) = no_value at (after (part_typed e scope None) (λ x. changed_typed at scope e es (level_changed A.RemoveM (out-SplType x.kind))))
 arguments_of at scope A.ClearM (e ∷ es) = no_value at (after (part_typed e scope None) (λ x. changed_typed at scope e es (level_changed A.ClearM (out-SplType x.kind))))
-arguments_of at scope call (e ∷ es) = after (part_typed e scope None) (λ x. first_typed at scope x.code es (level_first call x.kind (out-SplType x.kind)))
+arguments_of at scope call (e ∷ es) =
+    after (part_typed e scope None) (λ x. option_map_or (λ on. after (arguments_typed scope on.2 es) (λ xs. Ok (typed on.1 (C.BuiltIn on.0 (x.code ∷ xs)))))
+    (level_first call x.kind (out-SplType x.kind)) (wrong_call at))
 arguments_of at scope call [] = wrong_call at
 
 abbrev pub built_in_typed : ℕ → Scope → CallName → List (Placed Part) → Found Typed
 built_in_typed at scope call es = if length es == argument_count call then arguments_of at scope call es else wrong_call at
-
-abbrev pub call_typed : ℕ → Scope → List ℕ → List (Placed Part) → Option CallName → Found Typed
-call_typed at scope name es (Some call) = built_in_typed at scope call es
-call_typed at scope name es None = function_typed at scope name es (function_of scope name)
 
 -- ---- expressions
 
 -- an expression by its parts, each of which stands before its own type and code
 abbrev pub level_typed : ExprKind-F Part → ℕ → Scope → Wanted → Found Typed
 level_typed (X.Name name) at scope wanted = after (meant_typed at name (meant scope name)) (as_wanted at wanted)
-level_typed (X.Dollar name) at scope wanted = after (dollar_typed at name (dollar_of scope.dollars name)) (as_wanted at wanted)
+level_typed (X.Dollar name) at scope wanted = after (option_map_or (λ found. found) (dollar_of scope.dollars name) (unknown at name)) (as_wanted at wanted)
 level_typed (X.Number n) at scope wanted = after (number_typed at n) (as_wanted at wanted)
 level_typed (X.Text bytes) at scope wanted = as_wanted at wanted (typed S.Text (C.Literal (V.Text bytes)))
 level_typed (X.Bool b) at scope wanted = as_wanted at wanted (typed S.Bool (C.Literal (V.Bool b)))
 level_typed (X.Group e) at scope wanted = part_typed e scope wanted
-level_typed (X.List es) at scope wanted = list_typed at scope (wants_list wanted) es
-level_typed (X.Map es) at scope wanted = map_typed at scope (wants_map wanted) es
-level_typed (X.Tuple fs) at scope wanted = tuple_typed at scope (wants_tuple wanted) fs
-level_typed (X.Call name es) at scope wanted = after (call_typed at scope name es (call_of name)) (as_wanted at wanted)
-level_typed (X.Select base steps) at scope wanted = after (of_base (name_of base.what.0) base scope steps) (as_wanted at wanted)
-level_typed (X.Unary ps e) at scope wanted = after (unary_typed scope ps e) (as_wanted at wanted)
+level_typed (X.List es) at scope wanted = list_typed at scope (wants level_element wanted) es
+level_typed (X.Map es) at scope wanted = map_typed at scope (wants level_pair wanted) es
+level_typed (X.Tuple fs) at scope wanted = tuple_typed at scope (wants level_schema wanted) fs
+level_typed (X.Call name es) at scope wanted =
+    after (option_map_or (λ call. built_in_typed at scope call es) (call_of name) (function_typed at scope name es (function_of scope name)))
+    (as_wanted at wanted)
+level_typed (X.Select base steps) at scope wanted =
+    after (of_port (option_map_or (meant scope) (name_of base.what.0) Nothing) base scope steps) (as_wanted at wanted)
+level_typed (X.Unary ps e) at scope wanted =
+    after (after (part_typed e scope None) (λ x. after (prefixes_typed ps e.at x.kind) (λ xs. Ok (typed xs.1 (C.Unary xs.0 x.code))))) (as_wanted at wanted)
 level_typed (X.Binary op left right) at scope wanted =
-    after (binary_or_marker (marker_asked (scope.punct && asks_punct left.what.0) op (named_marker right.what.0)) scope op left right) (as_wanted at wanted)
+    after (option_map_or (λ code. Ok (typed S.Bool code)) (marker_asked (scope.punct && asks_punct left.what.0) op (named_marker right.what.0))
+    (binary_typed scope op left right)) (as_wanted at wanted)
 level_typed (X.Conditional c a b) at scope wanted = conditional_typed scope wanted c a b
 
 -- an expression inside another one, as its part

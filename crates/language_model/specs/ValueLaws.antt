@@ -12,9 +12,11 @@ use Rattle.language_model.specs.declared.scope.Typed.{Typed}
 use Rattle.language_model.specs.CodeFits.{SlotFits}
 use Rattle.language_model.specs.FitLaws.{DollarsFit}
 use Rattle.language_model.specs.Evaluation.{World, Calls, code_value, world_of}
-use Rattle.language_model.specs.Functions.{bodies_of, calls_of}
+use Rattle.language_model.specs.Functions.{bodies_of}
+use Rattle.language_model.specs.parts.Functions.{calls_of}
 use Rattle.language_model.specs.BodyFits.{Purpose, StatementFits}
-use Rattle.language_model.specs.Statements.{State, statement_acts, body_leaves}
+use Rattle.language_model.specs.Statements.{State, body_leaves}
+use Rattle.language_model.specs.parts.Statements.{statement_acts}
 use Rattle.language_model.specs.Typing.{Wanted, typing}
 use Rattle.language_model.specs.WorldFits.{Fits, FunctionsFit, VariablesFit, ComesTo, LeadsTo, BodyFits, Leaves}
 use Rattle.language_model.specs.Written.{slot_of_written, written, renamed, before_renaming, named_world}

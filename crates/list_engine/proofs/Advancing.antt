@@ -14,7 +14,8 @@ use Rattle.stream_model.specs.CheckedMeaning.{schema_at}
 use Rattle.stream_model.specs.Ends.{is_read}
 use Rattle.stream_model.specs.Laws.{is_made, reads_stream}
 use Rattle.stream_model.specs.Meaning.{Graph, Entries, Meaning}
-use Rattle.stream_model.specs.Operators.{Operator, connections, input_attributes, port_at, ports}
+use Rattle.stream_model.specs.Operators.{Operator, connections, input_attributes, ports}
+use Rattle.stream_model.specs.parts.Operators.{port_at}
 use Rattle.stream_model.specs.Stream.{is_closed, TuplesFit}
 use Rattle.stream_model.proofs.CheckedOperators.{OperatorAt}
 use Rattle.spl_value.proofs.Lists.{contains_here, contains_later}

@@ -25,14 +25,15 @@ use Rattle.language_model.specs.declared.scope.Port.{Port}
 use Rattle.language_model.specs.declared.scope.Scope.{Scope}
 use Rattle.language_model.specs.declared.scope.Signature.{Signature}
 use Rattle.stream_model.specs.examples.CheckedGraphs.{op_of}
-use Rattle.language_model.specs.Checking.{has_text_form, level_text_form}
+use Rattle.language_model.specs.Checking.{has_text_form}
+use Rattle.language_model.specs.parts.Checking.{level_text_form}
 use Rattle.language_model.specs.CodeFits as F
 use Rattle.language_model.specs.CodeFits.{CodeFits}
 use Rattle.language_model.specs.FitLaws.{no_names}
 use Rattle.language_model.specs.FlatLaws.{IsMadeAs, IsTopological}
 use Rattle.language_model.specs.Keeping as K
 use Rattle.language_model.specs.Keeping.{Keeps, GraphKeeps, OperatorFits, PortsHave}
-use Rattle.language_model.specs.Literals.{is_file_name}
+use Rattle.language_model.specs.parts.Literals.{is_file_name}
 use Rattle.stream_model.specs.Operators.{Operator, output_attributes}
 use Rattle.stream_model.specs.Stream.{Event, is_closed, TuplesFit}
 use Rattle.list_engine.specs.examples.Chain.{numbers, divides, chain, chain_graph, chain_operators, chain_rows}

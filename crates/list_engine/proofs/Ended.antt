@@ -13,10 +13,13 @@ use Rattle.stream_model.specs.Operators.{Operator, ports}
 use Rattle.stream_model.specs.React.{ended}
 use Rattle.stream_model.specs.Replies.{end_by}
 use Rattle.stream_model.specs.Stages.{start, stage_after, gives_all, on_port, out}
-use Rattle.stream_model.specs.Ends.{end_from, fault_of, operator_fault}
+use Rattle.stream_model.specs.Ends.{end_from, fault_of}
+use Rattle.stream_model.specs.parts.Ends.{operator_fault}
 use Rattle.stream_model.specs.Laws.{has_ended}
-use Rattle.stream_model.specs.Meaning.{Lists, arrive, taking, with_list}
-use Rattle.stream_model.specs.Records.{inputs_from, is_whole, names_inputs}
+use Rattle.stream_model.specs.Meaning.{Lists, arrive, taking}
+use Rattle.stream_model.proofs.parts.Meaning.{with_list}
+use Rattle.stream_model.specs.Records.{inputs_from, is_whole}
+use Rattle.stream_model.specs.parts.Records.{names_inputs}
 use Rattle.stream_model.proofs.Histories.{end_law}
 use Rattle.stream_model.proofs.OneAfterAnother.{arrive_from}
 use Rattle.stream_model.proofs.Records.{length-inputs_of, whole_law}

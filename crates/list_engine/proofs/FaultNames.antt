@@ -13,8 +13,10 @@ use Rattle.language_model.specs.declared.checked.CheckedClauses.{CheckedClauses}
 use Rattle.language_model.specs.declared.checked.CheckedClauses.TheVariants as A
 use Rattle.language_model.specs.declared.outs.Output.{Output}
 use Rattle.stream_model.specs.Bodies.{on_each, output}
-use Rattle.stream_model.specs.Ends.{end_fault, end_from, fault_of, first_fault, is_read, operator_fault, stream_fault, unread_fault}
-use Rattle.stream_model.specs.Meaning.{Lists, Entries, Meaning, arrive, events_at, events_of, in_topo, lists_at, made_by, makes, meaning, streams_of, taking, with_list}
+use Rattle.stream_model.specs.Ends.{end_fault, end_from, fault_of, first_fault, is_read, stream_fault, unread_fault}
+use Rattle.stream_model.specs.parts.Ends.{operator_fault}
+use Rattle.stream_model.specs.Meaning.{Lists, Entries, Meaning, arrive, events_at, events_of, in_topo, lists_at, made_by, makes, meaning, streams_of, taking}
+use Rattle.stream_model.proofs.parts.Meaning.{with_list}
 use Rattle.stream_model.specs.Operators.{Operator, connections}
 use Rattle.stream_model.specs.PortEvents.{is_last, is_waiting}
 use Rattle.stream_model.specs.React.{Reaction, Gives, Faults, answered, body, ended, own_fault, react}

@@ -9,7 +9,8 @@ use Rattle.language_model.specs.CheckedGraph.{CheckedGraph}
 use Rattle.language_model.specs.Keeping.{Keeps}
 use Rattle.stream_model.specs.CheckedMeaning.{graph_of}
 use Rattle.stream_model.specs.Ends as E
-use Rattle.stream_model.specs.Ends.{end_fault, first_fault, is_read, operator_fault, run_fault, stream_fault}
+use Rattle.stream_model.specs.Ends.{end_fault, first_fault, is_read, run_fault, stream_fault}
+use Rattle.stream_model.specs.parts.Ends.{operator_fault}
 use Rattle.stream_model.specs.Meaning.{Graph, Entries, Meaning}
 use Rattle.stream_model.specs.Operators.{Operator}
 use Rattle.spl_value.proofs.Lists.{next_rest as front_of, drop_past}

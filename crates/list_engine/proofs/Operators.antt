@@ -13,7 +13,7 @@ use Rattle.language_model.specs.CheckedGraph.{CheckedGraph}
 use Rattle.language_model.specs.Keeping.{Keeps, Once}
 use Rattle.stream_model.specs.Arrivals.{has_several}
 use Rattle.stream_model.specs.CheckedMeaning.{graph_of, schema_at}
-use Rattle.stream_model.specs.Ends.{operator_fault}
+use Rattle.stream_model.specs.parts.Ends.{operator_fault}
 use Rattle.stream_model.specs.Inputs.{inputs_of}
 use Rattle.stream_model.specs.Laws.{has_ended}
 use Rattle.stream_model.specs.Meaning.{Graph, Lists, Entries, Meaning, arrive, events_at, events_of, in_topo, lists_at, made_by, makes, meaning}

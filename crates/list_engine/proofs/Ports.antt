@@ -19,7 +19,8 @@ use Rattle.language_model.specs.Keeping.{Keeps, Once, PartFits, PortsHave, Strea
 use Rattle.language_model.specs.Kinds.{between, exactly, is_within}
 use Rattle.language_model.specs.StreamTypes.{Attributes}
 use Rattle.stream_model.specs.CheckedMeaning.{first_schema, operator_with, schema_at}
-use Rattle.stream_model.specs.Operators.{Operator, connections, input_attributes, output_attributes, port_at, ports, ports_from}
+use Rattle.stream_model.specs.Operators.{Operator, connections, input_attributes, output_attributes, ports, ports_from}
+use Rattle.stream_model.specs.parts.Operators.{port_at}
 use Rattle.stream_model.specs.Replies.{given_attributes}
 use Rattle.list_engine.specs.Runs.{is_source}
 use Rattle.stream_model.proofs.CheckedOperators.{first_is}

@@ -3,7 +3,8 @@ use Rattle.std.proofs.Common.{◌≡◌, ℕ, zero, suc, ◌+◌, ◌<◌, cond,
 use Rattle.std.specs.List.{cons_option, filter_map}
 use Rattle.std.proofs.lemmas.Bool.{eq-eqb, ne_eqb}
 use Rattle.stream_model.specs.declared.record.ArrivalList.{ArrivalList}
-use Rattle.stream_model.specs.Arrivals.{entries_in, has_several, if_several}
+use Rattle.stream_model.specs.Arrivals.{entries_in, has_several}
+use Rattle.stream_model.proofs.parts.Arrivals.{if_several}
 use Rattle.stream_model.specs.Operators.{Operator, connections}
 use Rattle.list_engine.specs.steps.Recording.{entries_at, lists_from, recorded_at}
 

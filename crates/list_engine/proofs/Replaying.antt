@@ -12,9 +12,12 @@ use Rattle.stream_model.specs.declared.record.Arrivals.{Arrivals}
 use Rattle.stream_model.specs.Arrivals.{entries_in}
 use Rattle.stream_model.specs.Inputs.{came_on, inputs_of}
 use Rattle.stream_model.specs.Laws.{has_ended}
-use Rattle.stream_model.specs.Meaning.{Lists, arrive, taking, with_list}
-use Rattle.stream_model.specs.Operators.{Operator, input_attributes, port_at, ports}
-use Rattle.stream_model.specs.Records.{ends_at_last, finds_items, input_after_input, is_whole, names_inputs, up_to_end}
+use Rattle.stream_model.specs.Meaning.{Lists, arrive, taking}
+use Rattle.stream_model.proofs.parts.Meaning.{with_list}
+use Rattle.stream_model.specs.Operators.{Operator, input_attributes, ports}
+use Rattle.stream_model.specs.parts.Operators.{port_at}
+use Rattle.stream_model.specs.Records.{ends_at_last, input_after_input, is_whole, up_to_end}
+use Rattle.stream_model.specs.parts.Records.{finds_items, names_inputs}
 use Rattle.stream_model.specs.Replies.{MayTake}
 use Rattle.stream_model.specs.Stages.{Stage, stage_after, next, start}
 use Rattle.stream_model.specs.Stream.{Event, came, is_empty, TuplesFit}

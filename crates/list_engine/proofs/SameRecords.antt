@@ -4,7 +4,8 @@ use Rattle.std.specs.List.{cons_option, filter_map}
 use Rattle.std.specs.Option.{option_map_or}
 use Rattle.std.proofs.lemmas.List.{reverse-append}
 use Rattle.stream_model.specs.Arrivals.{has_several}
-use Rattle.stream_model.specs.Meaning.{Lists, Entries, arrive, events_at, events_of, events_of_number, in_topo, lists_at, made_by, streams_of}
+use Rattle.stream_model.specs.Meaning.{Lists, Entries, arrive, events_at, events_of, in_topo, lists_at, made_by, streams_of}
+use Rattle.stream_model.proofs.parts.Meaning.{events_of_number}
 use Rattle.stream_model.specs.Operators.{Operator, connections}
 use Rattle.list_engine.specs.RunLaws.{SameRecordsLaw}
 

@@ -9,8 +9,10 @@ use Rattle.spl_value.specs.declared.item.Item.{Item}
 use Rattle.spl_value.specs.declared.item.Item.TheVariants as I
 use Rattle.language_model.specs.declared.checked.CheckedClauses.TheVariants as A
 use Rattle.language_model.specs.declared.outs.Output.{Output}
-use Rattle.stream_model.specs.Bodies.{on_each, sink_body}
-use Rattle.stream_model.specs.Operators.{Operator, port_at, ports}
+use Rattle.stream_model.specs.Bodies.{on_each}
+use Rattle.stream_model.specs.parts.Bodies.{sink_body}
+use Rattle.stream_model.specs.Operators.{Operator, ports}
+use Rattle.stream_model.specs.parts.Operators.{port_at}
 use Rattle.stream_model.specs.PortEvents.{is_last, is_waiting, port_events}
 use Rattle.stream_model.specs.React.{Reaction, Gives, Faults, answer, answered, body, ended, makes_by, own_fault, react}
 use Rattle.stream_model.specs.Stages.{gives_all, next, on_port, out, start}

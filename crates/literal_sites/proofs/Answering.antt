@@ -8,8 +8,7 @@ use Rattle.language_model.specs.declared.scope.CheckRefusal.{CheckRefusal}
 use Rattle.language_model.specs.Typing.{Found, after, refused}
 use Rattle.language_model.specs.declared.answer.TypeAnswer.{TypeAnswer}
 use Rattle.language_model.specs.declared.answer.TypeAnswer.TheVariants.{Refused, Memory}
-use Rattle.language_model.specs.Finds.{Finds, with_front}
-use Rattle.language_model.specs.Finds.{IsRefused}
+use Rattle.language_model.specs.Finds.{Finds, with_front, IsRefused}
 use Rattle.language_model.proofs.FoundAnswers.{after_after, finds_by, stops}
 use Rattle.spl_value.proofs.Lists.{drop_at}
 

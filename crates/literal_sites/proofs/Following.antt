@@ -6,7 +6,8 @@ use Rattle.spl_tree.specs.declared.graph.Expansion.{Expansion}
 use Rattle.spl_tree.specs.declared.graph.Site.{Site}
 use Rattle.spl_tree.specs.declared.unit.Definition.{Definition}
 use Rattle.spl_tree.specs.Trees.{Expr}
-use Rattle.language_model.specs.DollarTargets.{Target, target_in, followed_within, here_or}
+use Rattle.language_model.specs.DollarTargets.{Target, followed_within, here_or}
+use Rattle.language_model.specs.parts.DollarTargets.{target_in}
 
 module _ (unit : List Definition) (expansions : List Expansion) where
   -- an argument, where an expansion is invoked

@@ -1,7 +1,8 @@
 //! The expressions that are the values of `$` parameters.
 ghost use Rattle.std.specs.Prelude.{◌≡◌, length};
 ghost use Rattle.std.specs.Option.{option_copied};
-ghost use Rattle.language_model.specs.DollarTargets.{arguments_of, followed, heads_of, parameter_target, target, target_in};
+ghost use Rattle.language_model.specs.DollarTargets.{arguments_of, followed, heads_of, parameter_target, target};
+ghost use Rattle.language_model.specs.parts.DollarTargets.{target_in};
 ghost use Rattle.literal_sites.specs.steps.Following.{target_seen};
 ghost use Rattle.literal_sites.specs.Sites.{followed_in};
 

@@ -13,7 +13,8 @@ use Rattle.spl_tree.specs.declared.code.Code.TheFolds.{map-Code}
 use Rattle.spl_tree.specs.declared.code.Slot.{Slot}
 use Rattle.spl_tree.specs.declared.code.Selector.{Selector}
 use Rattle.spl_tree.specs.declared.code.UnaryCode.{UnaryCode}
-use Rattle.language_model.specs.LogicTyping.{is_minus, is_plain, level_plain}
+use Rattle.language_model.specs.LogicTyping.{is_minus, level_plain}
+use Rattle.language_model.specs.parts.LogicTyping.{is_plain}
 use Rattle.language_model.proofs.PlainCodes.{plain_at}
 
 pub of_literal : (v : Value) → is_plain (V.Literal v) ≡ true

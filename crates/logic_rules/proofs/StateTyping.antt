@@ -8,7 +8,8 @@ use Rattle.spl_tree.specs.Trees.{Expr}
 use Rattle.language_model.specs.declared.scope.CheckError.TheVariants as E
 use Rattle.language_model.specs.declared.scope.Dollar.{Dollar}
 use Rattle.language_model.specs.BodyTyping.{first_value}
-use Rattle.language_model.specs.LogicTyping.{is_state_value, state_typing, state_value, state_variable}
+use Rattle.language_model.specs.LogicTyping.{state_value, state_variable}
+use Rattle.language_model.specs.parts.LogicTyping.{is_state_value, state_typing}
 use Rattle.language_model.specs.Parameters.{constant_scope}
 use Rattle.language_model.specs.TypeNames.{Types}
 use Rattle.language_model.specs.Typing.{Found, refused}

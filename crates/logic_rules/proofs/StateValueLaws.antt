@@ -14,7 +14,8 @@ use Rattle.spl_tree.specs.declared.expression.ExprKind.TheViews.{out-ExprKind}
 use Rattle.spl_tree.specs.declared.expression.ExprKind.TheFolds.{fold-ExprKind, fold_out-ExprKind, map-ExprKind}
 use Rattle.spl_tree.specs.Trees.{Expr, Prefix}
 use Rattle.language_model.specs.declared.scope.Dollar.{Dollar}
-use Rattle.language_model.specs.LogicTyping.{is_minus_prefix, is_state_value, level_state, plain_parameter}
+use Rattle.language_model.specs.LogicTyping.{level_state, plain_parameter}
+use Rattle.language_model.specs.parts.LogicTyping.{is_minus_prefix, is_state_value}
 use Rattle.language_model.specs.Scopes.{dollar_of}
 
 abbrev pub passes : List Dollar → ExprKind → Bool

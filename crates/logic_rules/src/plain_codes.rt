@@ -1,7 +1,8 @@
 //! Codes of literals alone.
 ghost use Rattle.std.specs.Prelude.{◌≡◌, ◌&&◌};
 ghost use Rattle.std.specs.List.{list_all};
-ghost use Rattle.language_model.specs.LogicTyping.{is_minus, is_plain};
+ghost use Rattle.language_model.specs.LogicTyping.{is_minus};
+ghost use Rattle.language_model.specs.parts.LogicTyping.{is_plain};
 
 use spl_tree::{Code, Slot, UnaryCode};
 

@@ -1,7 +1,8 @@
 //! The variables of the state of a Custom.
 ghost use Rattle.std.specs.Prelude.{◌≡◌, IfOk, map};
 ghost use Rattle.std.specs.Option.{option_copied};
-ghost use Rattle.language_model.specs.LogicTyping.{state_typing, state_value, state_variable};
+ghost use Rattle.language_model.specs.LogicTyping.{state_value, state_variable};
+ghost use Rattle.language_model.specs.parts.LogicTyping.{state_typing};
 ghost use Rattle.language_model.specs.Parameters.{constant_scope};
 ghost use Rattle.written_types.specs.TypeScopes.{types_in};
 ghost use Rattle.language_model.specs.Finds.{Finds};

@@ -1,7 +1,8 @@
 //! Which expressions may be first values of the state.
 ghost use Rattle.std.specs.Prelude.{◌≡◌, ◌&&◌};
 ghost use Rattle.std.specs.List.{list_all};
-ghost use Rattle.language_model.specs.LogicTyping.{is_minus_prefix, is_state_value, plain_parameter};
+ghost use Rattle.language_model.specs.LogicTyping.{plain_parameter};
+ghost use Rattle.language_model.specs.parts.LogicTyping.{is_minus_prefix, is_state_value};
 ghost use Rattle.language_model.specs.Scopes.{dollar_of};
 
 use crate::plain_codes::is_plain;

@@ -10,7 +10,8 @@ use Rattle.language_model.specs.declared.scope.Scope.{Scope}
 use Rattle.language_model.specs.declared.scope.Typed.{Typed}
 use Rattle.language_model.specs.Readings.{name_of}
 use Rattle.language_model.specs.Scopes.{attribute_of}
-use Rattle.language_model.specs.Typing.{Found, after, typing, select_typed, of_base, port_attribute}
+use Rattle.language_model.specs.Typing.{Found, after, typing, select_typed}
+use Rattle.language_model.specs.parts.Typing.{of_base, port_attribute}
 use Rattle.language_model.specs.TypingLaws.{parted, step_parts}
 
 -- what is taken of an expression in turn

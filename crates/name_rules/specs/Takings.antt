@@ -10,7 +10,8 @@ use Rattle.spl_tree.specs.declared.code.Selector.{Selector}
 use Rattle.spl_tree.specs.declared.code.Selector.TheVariants as K
 use Rattle.language_model.specs.declared.scope.Typed.{Typed}
 use Rattle.language_model.specs.Scopes.{attribute_of}
-use Rattle.language_model.specs.Typing.{Found, after, level_index, member_typed, mismatch}
+use Rattle.language_model.specs.Typing.{Found, after, level_index, mismatch}
+use Rattle.language_model.specs.parts.Typing.{member_typed}
 use Rattle.language_model.specs.declared.answer.TypeAnswer.{TypeAnswer}
 use Rattle.language_model.specs.declared.answer.TypeAnswer.TheVariants.{Refused, Memory}
 

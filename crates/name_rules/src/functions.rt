@@ -2,7 +2,8 @@
 ghost use Rattle.std.specs.Option.{option_copied};
 ghost use Rattle.spl_tree.specs.declared.code.Code.TheVariants as C;
 ghost use Rattle.language_model.specs.Scopes.{at_place, function_of, unresolved_of};
-ghost use Rattle.language_model.specs.Typing.{not_callable, value_given};
+ghost use Rattle.language_model.specs.Typing.{not_callable};
+ghost use Rattle.language_model.specs.parts.Typing.{value_given};
 ghost use Rattle.language_model.specs.TypingLaws.{parts};
 ghost use Rattle.language_model.specs.Finds.{Finds, FindsBy};
 ghost use Rattle.name_rules.specs.Functions.{function_found};

@@ -3,7 +3,7 @@ ghost use Rattle.std.specs.Prelude.{◌≡◌};
 ghost use Rattle.std.specs.Option.{option_copied};
 ghost use Rattle.language_model.specs.Scopes.{attribute_of};
 ghost use Rattle.language_model.specs.Readings.{name_of};
-ghost use Rattle.language_model.specs.Typing.{port_attribute};
+ghost use Rattle.language_model.specs.parts.Typing.{port_attribute};
 ghost use Rattle.language_model.specs.Finds.{Finds};
 ghost use Rattle.name_rules.specs.Members.{MemberOfPort};
 

@@ -4,7 +4,8 @@ ghost use Rattle.language_model.specs.Scopes.{dollar_of, meant};
 ghost use Rattle.spl_tree.specs.declared.code.Code.TheVariants as C;
 ghost use Rattle.spl_tree.specs.declared.code.Slot.TheVariants as L;
 ghost use Rattle.spl_value.specs.declared.types.SplType.TheVariants as S;
-ghost use Rattle.language_model.specs.Typing.{meant_typed, dollar_typed, typed};
+ghost use Rattle.language_model.specs.Typing.{meant_typed, typed};
+ghost use Rattle.language_model.specs.parts.Typing.{dollar_typed};
 ghost use Rattle.language_model.specs.Finds.{Finds};
 ghost use Rattle.name_rules.specs.steps.Names.{Holds, Means};
 

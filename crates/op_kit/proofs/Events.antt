@@ -23,11 +23,15 @@ use Rattle.stream_model.specs.declared.reply.Reply.{Reply}
 use Rattle.stream_model.specs.declared.reply.Reply.TheVariants as R
 use Rattle.stream_model.specs.Stream.{Event, any_closes, came, is_empty, is_fault, is_final}
 use Rattle.stream_model.specs.Inputs.{came_on}
-use Rattle.stream_model.specs.Operators.{Operator, port_at, ports}
-use Rattle.stream_model.specs.PortEvents.{all_ended, is_last, is_over, is_waiting, port_ended, port_events}
+use Rattle.stream_model.specs.Operators.{Operator, ports}
+use Rattle.stream_model.specs.parts.Operators.{port_at}
+use Rattle.stream_model.specs.PortEvents.{is_last, is_over, is_waiting, port_events}
+use Rattle.stream_model.proofs.parts.PortEvents.{all_ended}
+use Rattle.stream_model.specs.parts.PortEvents.{port_ended}
 use Rattle.stream_model.specs.PortLaws.{PortEndLaw, WaitingLaw, has_connections, name_inputs}
 use Rattle.stream_model.specs.Bodies.{on_each}
-use Rattle.stream_model.specs.React.{Reaction, Gives, Faults, answered, body, ended, ended_by, port_body, react}
+use Rattle.stream_model.specs.React.{Reaction, Gives, Faults, answered, body, ended, ended_by, react}
+use Rattle.stream_model.specs.parts.React.{port_body}
 use Rattle.stream_model.specs.Replies.{AllFit, IsTaken, MayTake, OutsFit, Replies, end_by, is_live}
 use Rattle.stream_model.specs.Fitting.{EventsFit, HistoryFits, IsFitting, ReactsFit, CheckedFits}
 use Rattle.port_reacts.specs.Bodies.{GoesOn}

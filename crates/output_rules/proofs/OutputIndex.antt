@@ -11,7 +11,8 @@ use Rattle.spl_value.specs.declared.types.SplType.{SplType}
 use Rattle.language_model.specs.declared.scope.Port.{Port}
 use Rattle.language_model.specs.declared.scope.Scope.{Scope}
 use Rattle.language_model.specs.OutputTyping.{one_attribute, taken_over}
-use Rattle.language_model.specs.Scopes.{At, PortAttribute, at_place, attribute_of, attributes_from, in_port}
+use Rattle.language_model.specs.Scopes.{At, PortAttribute, at_place, attribute_of, attributes_from}
+use Rattle.language_model.specs.parts.Scopes.{in_port}
 use Rattle.language_model.proofs.Standing.{Stands, first_stands}
 use Rattle.output_rules.specs.steps.Indexed.{attributes_in, place_from}
 use Rattle.spl_value.proofs.Lists.{drop_at}

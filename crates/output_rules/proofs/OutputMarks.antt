@@ -5,7 +5,9 @@ use Rattle.std.proofs.Common.{refl, ap, sym, ◌∙◌, get_or, set}
 use Rattle.std.proofs.lemmas.List.{get_or-set_other, get_or-set_same}
 use Rattle.std.proofs.lemmas.Option.{unwrap_or-slice_get}
 use Rattle.std.proofs.lemmas.Bool.{eqb-true, eqb-false}
-use Rattle.language_model.specs.OutputTyping.{Assigned, is_assigned, places}
+use Rattle.language_model.specs.OutputTyping.{Assigned}
+use Rattle.language_model.proofs.parts.OutputTyping.{is_assigned}
+use Rattle.language_model.specs.parts.OutputTyping.{places}
 use Rattle.output_rules.specs.steps.Marking.{Tells}
 use Rattle.spl_value.proofs.Bools.{or_false as or_none}
 

@@ -8,7 +8,9 @@ use Rattle.spl_tree.specs.Trees.{Expr}
 use Rattle.spl_tree.specs.declared.expression.Field.{Field}
 use Rattle.spl_tree.specs.declared.unit.OutputAssignments.{OutputAssignments}
 use Rattle.language_model.specs.declared.checked.CollectorCall.{CollectorCall}
-use Rattle.language_model.specs.OutputTyping.{Assigned, Assigns, Fills, assignment_typing, assignments_typing, collected, filled_from, is_assigned, places, rows_typing}
+use Rattle.language_model.specs.OutputTyping.{Assigned, Assigns, Fills, assignment_typing, assignments_typing, filled_from, rows_typing}
+use Rattle.language_model.specs.parts.OutputTyping.{collected, places}
+use Rattle.language_model.proofs.parts.OutputTyping.{is_assigned}
 use Rattle.language_model.specs.Typing.{Found, after, unknown}
 use Rattle.language_model.specs.declared.answer.TypeAnswer.{TypeAnswer}
 use Rattle.language_model.specs.Finds.{Finds, with_front}

@@ -1,6 +1,7 @@
 //! The rows of a source's file as its stream, and tuples as the rows of a sink.
 ghost use Rattle.std.specs.Prelude.{◌≡◌, ◌∷◌, [], true, false, IfOk};
-ghost use Rattle.language_model.specs.Checking.{has_text_form, level_text_form};
+ghost use Rattle.language_model.specs.Checking.{has_text_form};
+ghost use Rattle.language_model.specs.parts.Checking.{level_text_form};
 ghost use Rattle.spl_value.specs.declared.types.SplType.TheViews.{out-SplType};
 ghost use Rattle.row_reader.specs.Reading.{is_over};
 

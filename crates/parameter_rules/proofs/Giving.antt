@@ -15,7 +15,9 @@ use Rattle.language_model.specs.declared.checked.Given.{Given}
 use Rattle.language_model.specs.declared.checked.ParameterValue.{ParameterValue}
 use Rattle.language_model.specs.declared.kinds.Role.{Role}
 use Rattle.language_model.specs.declared.kinds.Role.TheVariants as R
-use Rattle.language_model.specs.ParameterTyping.{Site, extra, key_at, key_of, keys_typing, level_key, one_value, parameter_typing, parameters_typing, role_of, single_value, value_given, value_typing, word_of}
+use Rattle.language_model.specs.ParameterTyping.{Site, extra, key_of, keys_typing, one_value, parameter_typing, parameters_typing, role_of, single_value, value_given, value_typing}
+use Rattle.language_model.proofs.parts.ParameterTyping.{key_at}
+use Rattle.language_model.specs.parts.ParameterTyping.{level_key, word_of}
 use Rattle.language_model.specs.Scopes.{at_place, attribute_of}
 use Rattle.language_model.specs.Typing.{Found, after, mismatch}
 use Rattle.literal_sites.proofs.Answering.{IsRow}

@@ -3,7 +3,8 @@ ghost use Rattle.std.specs.Prelude.{◌≡◌};
 ghost use Rattle.std.specs.Option.{option_copied};
 ghost use Rattle.std.specs.Str.{is_utf8};
 ghost use Rattle.spl_tree.specs.declared.expression.ExprKind.TheViews.{out-ExprKind};
-ghost use Rattle.language_model.specs.Literals.{file_or_mismatch, file_typing, is_file_name, text_at};
+ghost use Rattle.language_model.specs.Literals.{file_or_mismatch, file_typing};
+ghost use Rattle.language_model.specs.parts.Literals.{is_file_name, text_at};
 ghost use Rattle.language_model.specs.Finds.{Finds};
 ghost use Rattle.literal_sites.specs.Sites.{followed_at};
 

@@ -33,7 +33,9 @@ use Rattle.evaluation_laws.proofs.Handling.{marker_handler, tuple_handler}
 use Rattle.evaluation_laws.proofs.PlainCodes.{literal_law}
 use Rattle.stream_model.specs.Stream.{Event}
 use Rattle.stream_model.specs.Operators.{Operator}
-use Rattle.stream_model.specs.Customs.{changed, custom_body, first_value, item_leaves, left_by, marker_env, state, tuple_env, value_or, vars_after}
+use Rattle.stream_model.specs.Customs.{changed, custom_body, first_value, item_leaves, left_by, marker_env, state, vars_after}
+use Rattle.stream_model.specs.parts.Customs.{tuple_env}
+use Rattle.stream_model.proofs.parts.Customs.{value_or}
 use Rattle.stream_model.specs.React.{makes_by}
 use Rattle.stream_model.specs.Replies.{AllFit, ItemHas, given_attributes}
 use Rattle.stream_model.specs.Fitting.{FitsAt, HasPort, HistoryFits, IsFitting, MakesFit}

@@ -10,7 +10,8 @@ use Rattle.stream_model.specs.declared.reply.Reply.TheVariants as R
 use Rattle.stream_model.specs.Stream.{Event, is_fault}
 use Rattle.stream_model.specs.Operators.{Operator}
 use Rattle.stream_model.specs.Bodies.{Makes, on_each, output}
-use Rattle.stream_model.specs.React.{Reaction, Gives, Faults, answer, answered, ended_by, makes_by, port_body}
+use Rattle.stream_model.specs.React.{Reaction, Gives, Faults, answer, answered, ended_by, makes_by}
+use Rattle.stream_model.specs.parts.React.{port_body}
 use Rattle.stream_model.specs.Replies.{AllFit, OutsFit, end_by}
 use Rattle.stream_model.specs.Fitting.{FitsAt, MakesFit, NoneFaulted, is_given}
 use Rattle.stream_model.proofs.SimpleFits.{both_fit, none_fit, one_fits}

@@ -11,7 +11,8 @@ use Rattle.stream_model.specs.Stream.{Event, is_fault}
 use Rattle.stream_model.specs.Operators.{Operator}
 use Rattle.stream_model.specs.PortEvents.{is_over}
 use Rattle.stream_model.specs.Bodies.{on_each}
-use Rattle.stream_model.specs.React.{answered, ended_by, port_body}
+use Rattle.stream_model.specs.React.{answered, ended_by}
+use Rattle.stream_model.specs.parts.React.{port_body}
 use Rattle.stream_model.specs.Replies.{end_by}
 use Rattle.stream_model.specs.Fitting.{HasPort, HistoryFits, IsFitting}
 

@@ -12,7 +12,8 @@ use Rattle.spl_tree.specs.declared.statement.StmtKind.TheOpen.{StmtKind-F}
 use Rattle.spl_tree.specs.declared.statement.StmtKind.TheViews.{out-StmtKind}
 use Rattle.spl_tree.specs.declared.statement.StmtKind.TheFolds.{fold_out-StmtKind, map-StmtKind}
 use Rattle.spl_tree.specs.Trees.{Expr, Stmt}
-use Rattle.language_model.specs.Mentions.{Mentions, level_statement, statement_mentions, block_mentions, expr_mentions, optional_mentions, declaration_mentions}
+use Rattle.language_model.specs.Mentions.{Mentions, level_statement, block_mentions, expr_mentions}
+use Rattle.language_model.specs.parts.Mentions.{statement_mentions, optional_mentions, declaration_mentions}
 use Rattle.program_tables.specs.steps.MentionParts.{arm_mentions, other_mentions}
 
 at_level : (k : StmtKind) (x : StmtKind-F StmtKind) → out-StmtKind k ≡ x

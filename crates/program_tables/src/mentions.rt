@@ -2,7 +2,8 @@
 //! of the text.
 ghost use Rattle.std.specs.Prelude.{flat_map, ◌∷◌, [], ◌++◌, ◌≡◌, IfOk};
 ghost use Rattle.std.specs.Option.{option_map_or};
-ghost use Rattle.language_model.specs.Mentions.{expr_mentions, optional_mentions, declaration_mentions, statement_mentions, block_mentions, logic_mentions, part_of_window_mentions, window_mentions, parameter_mentions, assignment_mentions, clause_mentions};
+ghost use Rattle.language_model.specs.Mentions.{expr_mentions, block_mentions, logic_mentions, clause_mentions};
+ghost use Rattle.language_model.specs.parts.Mentions.{optional_mentions, declaration_mentions, statement_mentions, part_of_window_mentions, window_mentions, parameter_mentions, assignment_mentions};
 ghost use Rattle.program_tables.specs.Mentioned.{mentioned, mentions_seen};
 ghost use Rattle.program_tables.specs.steps.MentionParts.{Adds, entry_mentions, field_mentions, step_mentions, arm_mentions, other_mentions, handler_mentions, some_logic_mentions, some_window_mentions, some_output_mentions};
 

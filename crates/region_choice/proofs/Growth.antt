@@ -21,8 +21,10 @@ use Rattle.stream_model.specs.CheckedMeaning.{first_schema, graph_of}
 use Rattle.stream_model.specs.Copies.{aggregate_source, attribute_alone, kept_source, picks, source_of, trace}
 use Rattle.stream_model.specs.Meaning.{Graph}
 use Rattle.stream_model.specs.Operators.{Operator, input_attributes}
-use Rattle.stream_model.specs.Regions.{any_keyed, chain_key, chain_merge, entry_attributes, has_copy, is_one_each, numbers_to, ops_of}
-use Rattle.stream_model.specs.StateKinds.{has_mutable, is_keyed, state_of}
+use Rattle.stream_model.specs.Regions.{any_keyed, chain_key, chain_merge, entry_attributes, has_copy, numbers_to, ops_of}
+use Rattle.stream_model.specs.parts.Regions.{is_one_each}
+use Rattle.stream_model.specs.StateKinds.{is_keyed, state_of}
+use Rattle.stream_model.specs.parts.StateKinds.{has_mutable}
 use Rattle.stream_model.specs.Stream.{is_empty}
 use Rattle.stream_model.specs.Windows.{flushes_at_markers}
 use Rattle.region_choice.specs.declared.growing.Growing.{Growing}

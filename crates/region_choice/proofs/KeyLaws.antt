@@ -14,7 +14,8 @@ use Rattle.stream_model.specs.declared.plan.StateKind.TheVariants as K
 use Rattle.stream_model.specs.Copies.{source_of, trace}
 use Rattle.stream_model.specs.Meaning.{Graph}
 use Rattle.stream_model.specs.Operators.{Operator, input_attributes}
-use Rattle.stream_model.specs.Regions.{all_have, any_keyed, chain_key, entry_attributes, has_copy, is_it, numbers_to, ops_of}
+use Rattle.stream_model.specs.Regions.{all_have, any_keyed, chain_key, entry_attributes, has_copy, numbers_to, ops_of}
+use Rattle.stream_model.specs.parts.Regions.{is_it}
 use Rattle.stream_model.specs.StateKinds.{is_keyed, state_of}
 use Rattle.stream_model.specs.Stream.{is_empty}
 use Rattle.region_choice.specs.declared.keys.KeySource.{KeySource}

@@ -8,7 +8,8 @@ use Rattle.std.proofs.lemmas.List.{length-append}
 use Rattle.std.proofs.lemmas.List.Elements.{filter-append}
 use Rattle.stream_model.specs.Meaning.{Graph}
 use Rattle.stream_model.specs.Operators.{Operator, connections}
-use Rattle.stream_model.specs.Regions.{follows, is_chain, is_eligible, is_one, readings, reads}
+use Rattle.stream_model.specs.Regions.{follows, is_chain, is_eligible}
+use Rattle.stream_model.proofs.parts.Regions.{is_one, readings, reads}
 use Rattle.stream_model.specs.StateKinds.{is_whole, state_of}
 use Rattle.region_choice.specs.steps.GraphChains.{is_pair}
 use Rattle.region_choice.proofs.KeyLaws.{and_true}

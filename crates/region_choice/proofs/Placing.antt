@@ -18,7 +18,8 @@ use Rattle.stream_model.specs.declared.plan.StateKind.TheVariants as S
 use Rattle.stream_model.specs.CheckedMeaning.{graph_of}
 use Rattle.stream_model.specs.Meaning.{Graph}
 use Rattle.stream_model.specs.Operators.{Operator, connections}
-use Rattle.stream_model.specs.Regions.{IsPlan, is_eligible, is_one, ops_of, readings}
+use Rattle.stream_model.specs.Regions.{IsPlan, is_eligible, ops_of}
+use Rattle.stream_model.proofs.parts.Regions.{is_one, readings}
 use Rattle.stream_model.specs.StateKinds.{is_whole, state_of}
 use Rattle.region_choice.specs.declared.choice.Choice.{Choice}
 use Rattle.region_choice.specs.declared.growing.Growing.{Growing}

@@ -7,7 +7,8 @@ use Rattle.std.proofs.lemmas.Bool.{and_from, and_parts, cases_Bool, cases_eq, eq
 use Rattle.stream_model.specs.declared.plan.Region.{Region}
 use Rattle.stream_model.specs.Meaning.{Graph}
 use Rattle.stream_model.specs.Operators.{Operator}
-use Rattle.stream_model.specs.Regions.{IsPartOf, IsPlan, IsRegion, chain_key, chain_merge, eligible_numbers, first_number, firsts, follows, how_often, is_chain, is_eligible, is_safe, ops_of}
+use Rattle.stream_model.specs.Regions.{IsPartOf, IsPlan, IsRegion, chain_key, chain_merge, follows, how_often, is_chain, is_eligible, is_safe, ops_of}
+use Rattle.stream_model.proofs.parts.Regions.{eligible_numbers, first_number, firsts}
 use Rattle.stream_model.specs.Stream.{is_empty}
 use Rattle.region_choice.specs.steps.Choosing.{Chains, chosen, last_of}
 use Rattle.region_choice.specs.steps.GraphChains.{chains_of, has_key}

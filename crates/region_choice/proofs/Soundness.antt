@@ -17,8 +17,10 @@ use Rattle.stream_model.specs.declared.plan.StateKind.TheVariants as S
 use Rattle.stream_model.specs.CheckedMeaning.{graph_of}
 use Rattle.stream_model.specs.Meaning.{Graph}
 use Rattle.stream_model.specs.Operators.{Operator, connections}
-use Rattle.stream_model.specs.Regions.{is_eligible, ops_of, readings}
-use Rattle.stream_model.specs.StateKinds.{has_mutable, state_of}
+use Rattle.stream_model.specs.Regions.{is_eligible, ops_of}
+use Rattle.stream_model.proofs.parts.Regions.{readings}
+use Rattle.stream_model.specs.StateKinds.{state_of}
+use Rattle.stream_model.specs.parts.StateKinds.{has_mutable}
 use Rattle.stream_model.specs.Windows.{flushes_at_markers}
 use Rattle.stream_model.proofs.CheckedOperators.{checked_fits}
 use Rattle.region_choice.specs.steps.GraphChains.{chains_of, has_key, is_pair}

@@ -8,8 +8,11 @@ use Rattle.std.proofs.lemmas.Bool.{ne_eqb, not-true, or_parts}
 use Rattle.spl_value.specs.declared.types.Named.{Named}
 use Rattle.spl_value.specs.declared.types.SplType.{SplType}
 use Rattle.spl_value.specs.declared.value.Value.{Value}
-use Rattle.stream_model.specs.Fields.{field_value, in_front, tuple_of}
-use Rattle.stream_model.specs.Rows.{Row, fitting, line_gives}
+use Rattle.stream_model.specs.Fields.{tuple_of}
+use Rattle.stream_model.specs.parts.Fields.{field_value}
+use Rattle.stream_model.proofs.parts.Fields.{in_front}
+use Rattle.stream_model.specs.Rows.{Row, line_gives}
+use Rattle.stream_model.proofs.parts.Rows.{fitting}
 use Rattle.stream_model.proofs.PlainLines.{is_mark, split, may_be_marked, plain_line}
 use Rattle.row_reader.specs.declared.columns.Column.{Column}
 use Rattle.row_reader.specs.steps.Adding.{Added}

@@ -12,7 +12,9 @@ use Rattle.spl_value.specs.declared.types.IntKind.{IntKind}
 use Rattle.spl_value.specs.declared.types.SplType.TheVariants as T
 use Rattle.spl_value.specs.declared.value.Value.{Value}
 use Rattle.spl_value.specs.declared.value.Value.TheVariants as V
-use Rattle.stream_model.specs.Fields.{field_value, in_front, tuple_of}
+use Rattle.stream_model.specs.Fields.{tuple_of}
+use Rattle.stream_model.specs.parts.Fields.{field_value}
+use Rattle.stream_model.proofs.parts.Fields.{in_front}
 use Rattle.row_reader.specs.declared.columns.Column.{Column}
 use Rattle.row_reader.specs.declared.columns.Column.TheVariants as C
 use Rattle.row_reader.specs.steps.Adding.{Added}

@@ -1,13 +1,14 @@
 -- Steps of reading a source, over the parts of its state.
 use Rattle.std.proofs.Common.{◌≡◌, ◌==◌, ◌++◌, ◌∷◌, ◌∙◌, ◌≤◌, ◌<◌, ◌+◌, ◌-◌, [], ℕ, List, Bool, Some, None, refl, sym, ap, false, suc, zero, length, take, drop, append_assoc, length-append, arith, inl, inr, add-one, drop-cons, length-take-le, length-take}
-use Rattle.std.specs.List.{list_any}
+use Rattle.std.specs.List.{list_any, onto_first}
 use Rattle.std.proofs.lemmas.List.{append-nil, take-append-drop, drop-take, drop-drop}
 use Rattle.std.proofs.lemmas.List.Folds.{list_any-append}
 use Rattle.std.proofs.lemmas.Bool.{cases_Bool, or_parts}
 use Rattle.std.proofs.lemmas.Bool.Decides.{nat_tests}
 use Rattle.spl_value.specs.Script.{Ending, End, Failed}
 use Rattle.spl_value.specs.declared.item.FaultKind.{FaultKind}
-use Rattle.stream_model.specs.Rows.{Setting, checked_items, closing, items_from, last_items, line_gives, line_items, onto_first, pieces, source_fault, too_long}
+use Rattle.stream_model.specs.Rows.{Setting, checked_items, closing, items_from, last_items, line_gives, line_items, source_fault, too_long}
+use Rattle.stream_model.specs.parts.Rows.{pieces}
 use Rattle.row_reader.specs.steps.Finding.{IsFirstAt}
 
 abbrev pub is_feed : ℕ → Bool

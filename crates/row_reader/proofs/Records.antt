@@ -15,8 +15,11 @@ use Rattle.csv.proofs.ReadFacts.{run-copies, runs-step}
 use Rattle.spl_value.specs.declared.types.Named.{Named}
 use Rattle.spl_value.specs.declared.types.SplType.{SplType}
 use Rattle.spl_value.specs.declared.value.Value.{Value}
-use Rattle.stream_model.specs.Fields.{field_value, in_front, tuple_of}
-use Rattle.stream_model.specs.Rows.{Row, Nothing, Bad, fitting, of_records}
+use Rattle.stream_model.specs.Fields.{tuple_of}
+use Rattle.stream_model.specs.parts.Fields.{field_value}
+use Rattle.stream_model.proofs.parts.Fields.{in_front}
+use Rattle.stream_model.specs.Rows.{Row, Nothing, Bad, of_records}
+use Rattle.stream_model.proofs.parts.Rows.{fitting}
 use Rattle.row_reader.specs.declared.columns.Column.{Column}
 use Rattle.row_reader.specs.declared.columns.Column.TheVariants as C
 use Rattle.row_reader.specs.steps.Adding.{Added}

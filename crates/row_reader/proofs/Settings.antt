@@ -12,8 +12,12 @@ use Rattle.spl_value.specs.declared.types.SplType.{SplType}
 use Rattle.spl_value.specs.declared.value.Value.{Value}
 use Rattle.spl_value.proofs.FitsLaws.{fits_tuple}
 use Rattle.csv.specs.Reading.{default_config, records, strip_bom}
-use Rattle.stream_model.specs.Fields.{field_value, in_front, tuple_of}
-use Rattle.stream_model.specs.Rows.{Bad, Given, Nothing, Row, Setting, checked_items, closing, cut_short, fitting, items_from, last_items, line_gives, line_items, of_records, pieces, too_long}
+use Rattle.stream_model.specs.Fields.{tuple_of}
+use Rattle.stream_model.specs.parts.Fields.{field_value}
+use Rattle.stream_model.proofs.parts.Fields.{in_front}
+use Rattle.stream_model.specs.Rows.{Bad, Given, Nothing, Row, Setting, checked_items, closing, items_from, last_items, line_gives, line_items, of_records, too_long}
+use Rattle.stream_model.proofs.parts.Rows.{cut_short, fitting}
+use Rattle.stream_model.specs.parts.Rows.{pieces}
 use Rattle.row_reader.specs.declared.columns.Column.{Column}
 use Rattle.row_reader.specs.declared.rows.Rows.{Rows}
 use Rattle.row_reader.specs.Columns.{attributes, type_of}

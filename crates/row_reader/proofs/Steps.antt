@@ -14,7 +14,9 @@ use Rattle.csv.specs.Reading.{default_config, records, strip_bom}
 use Rattle.feed_pour.specs.Contents.{PieceGiven}
 use Rattle.feed_pour.specs.declared.outside.Failed as F
 use Rattle.stream_model.specs.Fields.{tuple_of}
-use Rattle.stream_model.specs.Rows.{Bad, Given, Row, checked_items, closing, fitting, items_from, last_items, line_gives, line_items, of_records, pieces, source_fault, too_long}
+use Rattle.stream_model.specs.Rows.{Bad, Given, Row, checked_items, closing, items_from, last_items, line_gives, line_items, of_records, source_fault, too_long}
+use Rattle.stream_model.proofs.parts.Rows.{fitting}
+use Rattle.stream_model.specs.parts.Rows.{pieces}
 use Rattle.stream_model.specs.Stream.{closes}
 use Rattle.row_reader.specs.declared.columns.Column.{Column}
 use Rattle.row_reader.specs.declared.rows.Rows.{Rows}

@@ -12,7 +12,8 @@ use Rattle.spl_value.specs.declared.types.Named.{Named}
 use Rattle.spl_value.specs.declared.types.SplType.{SplType}
 use Rattle.spl_value.specs.declared.types.SplType.TheVariants as T
 use Rattle.spl_value.specs.declared.value.Value.TheVariants as V
-use Rattle.stream_model.specs.Rows.{Setting, closing, items_from, pieces}
+use Rattle.stream_model.specs.Rows.{Setting, closing, items_from}
+use Rattle.stream_model.specs.parts.Rows.{pieces}
 use Rattle.row_reader.specs.declared.rows.Rows.{Rows}
 use Rattle.row_reader.specs.declared.rows.Stage.{Stage}
 use Rattle.row_reader.specs.declared.rows.Stage.TheVariants as S

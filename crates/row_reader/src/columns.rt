@@ -1,8 +1,9 @@
 //! The columns of a row, and the values of their fields.
 ghost use Rattle.std.specs.Prelude.{◌≡◌, [], true, map, IfOk};
 ghost use Rattle.spl_value.specs.declared.types.SplType.TheViews.{out-SplType};
-ghost use Rattle.language_model.specs.Checking.{has_text_form, level_text_form};
-ghost use Rattle.stream_model.specs.Fields.{field_value};
+ghost use Rattle.language_model.specs.Checking.{has_text_form};
+ghost use Rattle.language_model.specs.parts.Checking.{level_text_form};
+ghost use Rattle.stream_model.specs.parts.Fields.{field_value};
 ghost use Rattle.row_reader.specs.declared.columns.Column.TheVariants as C;
 ghost use Rattle.row_reader.specs.steps.Adding.{Added};
 ghost use Rattle.row_reader.specs.Columns.{type_of};

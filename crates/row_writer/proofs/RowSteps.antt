@@ -3,7 +3,7 @@ use Rattle.std.proofs.Common.{◌≡◌, ◌==◌, ◌++◌, ◌∷◌, ◌∙�
 use Rattle.std.specs.Prelude.{not}
 use Rattle.std.proofs.lemmas.List.{append-nil, take_more, take_all, map-append, length-map}
 use Rattle.spl_value.specs.declared.value.Value.{Value}
-use Rattle.stream_model.specs.Fields.{field_of}
+use Rattle.stream_model.specs.parts.Fields.{field_of}
 use Rattle.std.proofs.lemmas.Bool.{cases_Bool, eqb-true}
 use Rattle.csv.specs.Writing.{default_writer, escaped, field_text, fields_text, row_body, row_text, is_blank, next_sep}
 use Rattle.csv.proofs.WriteFacts.{escaped-append, row-more}

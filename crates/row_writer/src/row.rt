@@ -2,7 +2,7 @@
 ghost use Rattle.std.specs.Prelude.{◌≡◌, ◌++◌, ◌∷◌, [], map, true, false, cond, codes, OnOk};
 ghost use Rattle.std.specs.Fmt.{signed_decimal};
 ghost use Rattle.csv.specs.Writing.{default_writer, needs_quotes, quoted, field_text, row_text};
-ghost use Rattle.stream_model.specs.Fields.{field_of};
+ghost use Rattle.stream_model.specs.parts.Fields.{field_of};
 
 use itoa::Buffer;
 use spl_value::{NoMemory, Value};

@@ -5,7 +5,8 @@ use Rattle.selectivity_rules.specs.declared.counts.Count.{Count}
 use Rattle.selectivity_rules.specs.declared.counts.Count.TheVariants as C
 use Rattle.selectivity_rules.specs.declared.counts.Submits.{Submits}
 use Rattle.selectivity_rules.specs.steps.Counts.{plus, smaller, larger, several, both_of, either_of, repeated_of, cap, cap_most, capped}
-use Rattle.stream_model.specs.Selectivity.{Interval, both, either, repeated, sum_of, larger_of, any_times}
+use Rattle.stream_model.specs.Selectivity.{Interval, both, either, repeated, any_times}
+use Rattle.stream_model.proofs.parts.Selectivity.{sum_of, larger_of}
 
 cap_more : (n : ℕ) → 2 ≤ n → cap n ≡ C.More
 cap_more zero h = absurd (omega arith)

@@ -38,11 +38,15 @@ use Rattle.stream_model.specs.Windows.{fired_at, flushes_at_markers, partition_k
 use Rattle.stream_model.specs.Operators.{Operator}
 use Rattle.stream_model.specs.PortEvents.{items_of, port_events}
 use Rattle.stream_model.specs.Bodies.{Makes, at_tuple, filter_body, functor_body, most_turns, on_each, on_first, on_picked, passes, split_body, tuple_by, union_body, values_at}
-use Rattle.stream_model.specs.Aggregates.{aggregate_body, arguments, contents_give, fired_give, marker_passed, slides}
-use Rattle.stream_model.specs.Customs.{custom_body, handler, left_by, marker_env, state, tuple_env}
+use Rattle.stream_model.specs.Aggregates.{aggregate_body, arguments, contents_give, fired_give, slides}
+use Rattle.stream_model.specs.parts.Aggregates.{marker_passed}
+use Rattle.stream_model.specs.Customs.{custom_body, handler, left_by, marker_env, state}
+use Rattle.stream_model.specs.parts.Customs.{tuple_env}
 use Rattle.stream_model.specs.React.{answer, answered, makes_by}
 use Rattle.stream_model.specs.Regions.{Causes, IsCount}
-use Rattle.stream_model.specs.Selectivity.{custom_gives, gives, greatest_number, has_at_most, has_exactly, is_at_most, is_number, is_single, least_number, one_unless, window_gives}
+use Rattle.stream_model.specs.Selectivity.{custom_gives, gives, has_at_most, has_exactly, is_single, least_number, one_unless, window_gives}
+use Rattle.stream_model.specs.parts.Selectivity.{greatest_number}
+use Rattle.stream_model.proofs.parts.Selectivity.{is_at_most, is_number}
 use Rattle.stream_model.proofs.Flushes.{fired_law, passing_law}
 use Rattle.stream_model.proofs.StageLaws.{one_in}
 use Rattle.selectivity_rules.specs.ClassLaws.{ClassLaw}

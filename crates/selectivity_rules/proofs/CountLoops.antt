@@ -9,7 +9,8 @@ use Rattle.selectivity_rules.specs.declared.counts.Count.{Count}
 use Rattle.selectivity_rules.specs.declared.counts.Count.TheVariants as C
 use Rattle.selectivity_rules.specs.declared.counts.Submits.{Submits}
 use Rattle.selectivity_rules.specs.steps.Counts.{plus, smaller, larger, both_of, either_of, none, capped, joined}
-use Rattle.stream_model.specs.Selectivity.{Interval, chosen, decided, row_interval}
+use Rattle.stream_model.specs.Selectivity.{Interval, chosen, row_interval}
+use Rattle.stream_model.specs.parts.Selectivity.{decided}
 use Rattle.selectivity_rules.specs.steps.Intervals.{arms_interval, statement_interval}
 use Rattle.selectivity_rules.proofs.Capping.{capped_both, capped_either}
 use Rattle.spl_value.proofs.Lists.{drop_at}

@@ -10,7 +10,8 @@ use Rattle.language_model.specs.declared.checked.WindowRule.TheVariants as W
 use Rattle.stream_model.specs.declared.plan.Gives.{Gives}
 use Rattle.stream_model.specs.declared.plan.Gives.TheVariants as G
 use Rattle.stream_model.specs.Customs.{handler}
-use Rattle.stream_model.specs.Selectivity.{Interval, custom_gives, has_at_most, has_exactly, is_at_most, is_number, is_single, row_interval, window_gives}
+use Rattle.stream_model.specs.Selectivity.{Interval, custom_gives, has_at_most, has_exactly, is_single, row_interval, window_gives}
+use Rattle.stream_model.proofs.parts.Selectivity.{is_at_most, is_number}
 use Rattle.selectivity_rules.specs.steps.Counts.{body_submits, cap, cap_most, capped, class_of, handlers_give, is_more, is_none, is_one, is_unit, is_zero, trigger_gives}
 
 -- ---- numbers

@@ -31,13 +31,18 @@ use Rattle.language_model.specs.declared.outs.Output.{Output}
 use Rattle.language_model.specs.Changes.{changed, change_of}
 use Rattle.language_model.specs.Evaluation.{Meaning, all_of, code_value, level_value, same_marker, truth, world_of}
 use Rattle.language_model.specs.Functions.{bodies_of}
-use Rattle.language_model.specs.Operators.{truth_of, level_truth}
+use Rattle.language_model.specs.Operators.{level_truth}
+use Rattle.language_model.specs.parts.Operators.{truth_of}
 use Rattle.language_model.specs.Outcomes.{Outcome, Done, Faulted, Stuck, followed, need, settled}
 use Rattle.language_model.specs.StatementLaws.{arms_act, block_is, declare_is, change_is, evaluate_is, call_is, if_is, while_is, for_is, break_is, continue_is, return_is, submit_is, submit_window_is}
-use Rattle.language_model.specs.Statements.{State, Acts, Bodies, Left, calls_by, value_in, truth_in, with_vars, declared, scoped, submitted, change_values, then_rest, then_again, turn_while, turns_while, turns_over, level_elements, level_tuple, return_acts, statement_acts, row_acts, left_by, body_leaves}
+use Rattle.language_model.specs.Statements.{State, Acts, Bodies, Left, calls_by, value_in, truth_in, with_vars, declared, scoped, submitted, change_values, then_rest, then_again, turn_while, turns_while, turns_over, level_elements, level_tuple, body_leaves}
+use Rattle.language_model.specs.parts.Statements.{return_acts, statement_acts, row_acts}
+use Rattle.language_model.proofs.parts.Statements.{left_by}
 use Rattle.language_model.proofs.Returning.{Only, only_followed, only_enter, only_weaker}
 use Rattle.language_model.proofs.StatementInduction.{OfArm, StatementSteps, statement_ind}
-use Rattle.stream_model.specs.Selectivity.{Interval, any_times, both, chosen, decided, either, exactly, greatest_number, larger_of, least_number, level_decided, level_interval, of_arms, repeated, row_interval, sum_of}
+use Rattle.stream_model.specs.Selectivity.{Interval, any_times, both, chosen, either, exactly, least_number, level_decided, level_interval, of_arms, repeated, row_interval}
+use Rattle.stream_model.specs.parts.Selectivity.{decided, greatest_number}
+use Rattle.stream_model.proofs.parts.Selectivity.{larger_of, sum_of}
 use Rattle.selectivity_rules.specs.SubmitLaws.{IntervalLaw, IsUpTo}
 use Rattle.selectivity_rules.specs.steps.Intervals.{statement_interval}
 use Rattle.spl_value.proofs.Bools.{or_last}

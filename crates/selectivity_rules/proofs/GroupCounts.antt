@@ -18,10 +18,13 @@ use Rattle.language_model.specs.Keeping as F
 use Rattle.language_model.specs.StreamTypes.{Attributes}
 use Rattle.stream_model.specs.Stream.{is_empty}
 use Rattle.spl_value.specs.KeyOrder.{each_key, key_cmp}
-use Rattle.stream_model.specs.Windows.{Silent, Triggers, contents_of, exceeds, fires_behind, in_order, last_of, near, trigger_if}
-use Rattle.stream_model.specs.Groups.{of_group}
+use Rattle.stream_model.specs.Windows.{Silent, Triggers, contents_of, exceeds, fires_after, in_order, near, trigger_if}
+use Rattle.stream_model.proofs.parts.Windows.{last_of}
+use Rattle.stream_model.specs.parts.Groups.{of_group}
 use Rattle.stream_model.specs.Bodies.{on_first}
-use Rattle.stream_model.specs.Aggregates.{contents_give, group_tuple, marker_after, slides, tuples_of}
+use Rattle.stream_model.specs.Aggregates.{contents_give, slides, tuples_of}
+use Rattle.stream_model.proofs.parts.Aggregates.{group_tuple}
+use Rattle.stream_model.specs.parts.Aggregates.{marker_after}
 use Rattle.stream_model.specs.Regions.{IsCount}
 use Rattle.stream_model.specs.Selectivity.{window_gives}
 use Rattle.stream_model.proofs.Flushes.{pushed}
@@ -107,7 +110,7 @@ delta_some a limit t ts = near_some (exceeds a limit) (in_order ts) t
 -- what a window without groups gives for a tuple, by its class
 module _ (functions : List Function) (output : List CollectedAttribute) (t : List Value) (ts : List (List Value)) where
   abbrev Gives_of : WindowRule → Option (List Output)
-  Gives_of rule = contents_give functions [] output rule (contents_of (fires_behind rule t ts))
+  Gives_of rule = contents_give functions [] output rule (contents_of (fires_after rule t ts))
 
   count_counts : (n : ℕ) (every : Option ℕ) → 1 ≤ n → HasCount (IsCount (window_gives (W.SlidingCount n every) [])) (Gives_of (W.SlidingCount n every))
   count_counts n None le = trigger_at_most functions output (W.SlidingCount n None) refl None (suc (length ts)) (last_of n (t ∷ ts))

@@ -14,7 +14,8 @@ use Rattle.spl_tree.specs.declared.code.Code.TheVariants as V
 use Rattle.spl_tree.specs.declared.code.Code.TheOpen as O
 use Rattle.spl_tree.specs.declared.code.Marker.{Marker}
 use Rattle.spl_tree.specs.declared.code.Slot.{Slot}
-use Rattle.stream_model.specs.Selectivity.{Interval, chosen, decided, exactly, level_decided, level_interval, of_arms, repeated, row_interval}
+use Rattle.stream_model.specs.Selectivity.{Interval, chosen, exactly, level_decided, level_interval, of_arms, repeated, row_interval}
+use Rattle.stream_model.specs.parts.Selectivity.{decided}
 use Rattle.selectivity_rules.specs.steps.Intervals.{arms_interval, statement_interval}
 
 module _ (marker : Option Marker) where

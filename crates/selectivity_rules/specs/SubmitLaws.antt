@@ -6,7 +6,8 @@ use Rattle.language_model.specs.declared.env.Env.{Env}
 use Rattle.language_model.specs.Functions.{runs}
 use Rattle.language_model.specs.Outcomes.{Done}
 use Rattle.language_model.specs.Statements.{Left}
-use Rattle.stream_model.specs.Selectivity.{greatest_number, least_number}
+use Rattle.stream_model.specs.Selectivity.{least_number}
+use Rattle.stream_model.specs.parts.Selectivity.{greatest_number}
 
 -- a number is at most that, where there is a greatest
 abbrev pub IsUpTo : Option ℕ → ℕ → Type 0

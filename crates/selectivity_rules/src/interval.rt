@@ -1,6 +1,7 @@
 //! How many items statements submit.
 ghost use Rattle.std.specs.Prelude.{◌≡◌};
-ghost use Rattle.stream_model.specs.Selectivity.{decided, row_interval};
+ghost use Rattle.stream_model.specs.Selectivity.{row_interval};
+ghost use Rattle.stream_model.specs.parts.Selectivity.{decided};
 ghost use Rattle.selectivity_rules.specs.steps.Counts.{capped, joined, none, one, returning};
 ghost use Rattle.selectivity_rules.specs.steps.Intervals.{arms_interval, statement_interval};
 

@@ -7,7 +7,8 @@ use Rattle.spl_value.specs.declared.item.Item.{Item}
 use Rattle.spl_value.specs.declared.item.FaultKind.TheVariants as K
 use Rattle.feed_pour.specs.Counts.{FaultCounts, Counted, PerName, OpeningCounted, ReadingCounted}
 use Rattle.feed_pour.specs.Contents.{Told}
-use Rattle.stream_model.specs.Rows.{Setting, Given, Row, Nothing, Bad, checked_items, closing, items_from, line_gives, line_items, rows, too_long, pieces}
+use Rattle.stream_model.specs.Rows.{Setting, Given, Row, Nothing, Bad, checked_items, closing, items_from, line_gives, line_items, rows, too_long}
+use Rattle.stream_model.specs.parts.Rows.{pieces}
 use Rattle.row_reader.specs.Reading.{is_read_fault}
 use Rattle.source_rows.specs.Counting.{Grows}
 use Rattle.source_rows.specs.Sources.{is_failed}

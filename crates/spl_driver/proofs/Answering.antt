@@ -1,6 +1,6 @@
 -- What the answer of a request means once its text is told.
 use Rattle.std.proofs.Common.{◌≡◌, ◌∙◌, ℕ, Bool, true, false, List, [], ◌∷◌, ◌++◌, length, take, refl, sym, ap, subst, inl, inr, ◌⊎◌, Option, Some, None, Ok}
-use Rattle.std.specs.Prelude.{IfSome}
+use Rattle.std.specs.Prelude.{IfSome, ◌||◌}
 use Rattle.std.proofs.Math.Seq.{take-length}
 use Rattle.spl_value.specs.declared.item.Fault.{Fault}
 use Rattle.feed_pour.specs.Counts.{PerName}
@@ -16,7 +16,6 @@ use Rattle.run_report.specs.declared.refusal.Refusal.{Refusal}
 use Rattle.stream_model.specs.Operators.{Operator}
 use Rattle.command_line.specs.declared.request.Request.{Request}
 use Rattle.spl_driver.specs.Outcome.{RequestOutcome, NoRequest, Unreadable, Refused, NotBuilt, Reports, BadArrivals, Runs, IsFound, IsOutcome, ArePartsIn, of_program, of_unreadable}
-use Rattle.std.specs.Prelude.{◌||◌}
 use Rattle.std.specs.Str.{bytes_eq}
 use Rattle.check_laws.specs.Files.{is_named, sink_file}
 use Rattle.command_line.specs.declared.request.Request.TheVariants as R

@@ -9,7 +9,7 @@ use Rattle.run_report.specs.declared.cause.Cause.TheVariants as C
 use Rattle.run_report.specs.Texts.{status_text}
 use Rattle.command_line.specs.declared.request.Request.{Request}
 use Rattle.command_line.specs.declared.request.Request.TheVariants as R
-use Rattle.spl_driver.specs.Answer.{Answered, ByWords, IsRun, MayBe, is_report}
+use Rattle.spl_driver.specs.Answer.{Answered, ByWords, IsRun, MayBe, is_report, IsOr}
 use Rattle.spl_driver.specs.Shown.{IsReason, IsRunProgram, NothingRan, Shown}
 use Rattle.spl_driver.specs.Built.{is_built}
 use Rattle.spl_driver.specs.Texts.{wants_counts, IsToldOutcome}
@@ -17,7 +17,6 @@ use Rattle.spl_driver.specs.steps.Telling.{IsText}
 use Rattle.spl_driver.specs.steps.Steps.{AnswersRequest}
 use Rattle.spl_driver.proofs.Causes.{IsReport}
 use Rattle.spl_driver.specs.declared.answer.Answer.{Answer}
-use Rattle.spl_driver.specs.Answer.{IsOr}
 use Rattle.spl_driver.proofs.Showing.{IsPlainCause, plain_record, or_ran, or_reason, plain_ran, quiet_shown}
 use Rattle.spl_driver.proofs.Running.{or_text, plain_text}
 use Rattle.spl_driver.proofs.Standing.{built_words, not_built_answer, words_answer}

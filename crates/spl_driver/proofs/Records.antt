@@ -8,7 +8,8 @@ use Rattle.spl_tree.specs.declared.graph.Op.{Op}
 use Rattle.language_model.specs.CheckedGraph.{CheckedGraph}
 use Rattle.stream_model.specs.declared.record.ArrivalList.{ArrivalList}
 use Rattle.stream_model.specs.declared.record.Arrivals.{Arrivals}
-use Rattle.stream_model.specs.Arrivals.{entries_in, has_several, if_several, several}
+use Rattle.stream_model.specs.Arrivals.{entries_in, has_several, several}
+use Rattle.stream_model.proofs.parts.Arrivals.{if_several}
 use Rattle.stream_model.specs.CheckedMeaning.{graph_of, operator_with, operators_from}
 use Rattle.stream_model.specs.Operators.{Operator, connections}
 

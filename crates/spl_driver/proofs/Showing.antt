@@ -10,7 +10,7 @@ use Rattle.command_line.specs.declared.request.Request.{Request}
 use Rattle.command_line.specs.declared.request.Request.TheVariants as R
 use Rattle.command_line.specs.declared.request.RunOptions.{RunOptions}
 use Rattle.source_rows.specs.Counting.{OnlyReads}
-use Rattle.spl_driver.specs.Answer.{DevicesShow, IsRun, NoCountChanged, cause_of, is_report}
+use Rattle.spl_driver.specs.Answer.{DevicesShow, IsRun, NoCountChanged, cause_of, is_report, IsOr}
 use Rattle.spl_driver.specs.Built.{is_built}
 use Rattle.spl_driver.specs.Files.{FilesOf, files_of, program_of, row_files}
 use Rattle.spl_driver.specs.steps.Telling.{ToldAs, OUT}
@@ -18,7 +18,6 @@ use Rattle.spl_driver.specs.Outcome.{IsProgramOf}
 use Rattle.spl_driver.specs.Shown.{ArePartsOf, IsReason, IsRunProgram, TextShown, NothingRan, Ran, RanShown, RunShown, Shown, ShownBy}
 use Rattle.spl_driver.specs.steps.Steps.{CountsShow, FirstOpening, FirstReading, IsRunGraph, RanAccepted, RanGraph, ReasonOf, is_bad_arrivals}
 use Rattle.spl_driver.proofs.Causes.{IsReport}
-use Rattle.spl_driver.specs.Answer.{IsOr}
 use Rattle.spl_driver.specs.declared.ended.Ended.{Ended}
 use Rattle.spl_driver.proofs.Fetching.{quiet_only}
 use Rattle.spl_driver.proofs.Standing.{IsQuiet, IsUnrun, opening_of, outside, quiet_stopped, reading_of, same_counts}

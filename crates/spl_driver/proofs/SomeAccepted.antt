@@ -8,7 +8,8 @@ use Rattle.spl_tree.specs.Laws.{LexedLaw}
 use Rattle.spl_tree.specs.Tokens.{IsLexed, tokens}
 use Rattle.spl_tree.specs.Tokens as lexical
 use Rattle.spl_tree.specs.Units.{IsUnit}
-use Rattle.language_model.specs.Accepted.{ProgramRefusal, Lexical, TooDeep, Unexpected, Expansion, IsAccepted, no_tokens, too_deep, unexpected, no_graph, checks, refused_check}
+use Rattle.language_model.specs.Accepted.{ProgramRefusal, Lexical, TooDeep, Unexpected, Expansion, IsAccepted, no_tokens, too_deep, unexpected, no_graph, checks}
+use Rattle.language_model.proofs.parts.Accepted.{refused_check}
 use Rattle.language_model.specs.CheckedGraph.{CheckedGraph}
 use Rattle.language_model.specs.Checking.{checked}
 use Rattle.expansion_laws.specs.Laws.{IsFound, FoundLaw}

@@ -21,7 +21,8 @@ use Rattle.language_model.specs.declared.answer.TypeAnswer.{TypeAnswer}
 use Rattle.language_model.specs.declared.answer.TypeAnswer.TheVariants as T
 use Rattle.language_model.specs.Finds.{Finds}
 use Rattle.language_model.specs.declared.scope.CheckRefusal.{CheckRefusal}
-use Rattle.language_model.specs.Accepted.{Lexical, Unexpected, TooDeep, Expansion, Check, IsAccepted, no_tokens, too_deep, unexpected, no_graph, checks, refused_check}
+use Rattle.language_model.specs.Accepted.{Lexical, Unexpected, TooDeep, Expansion, Check, IsAccepted, no_tokens, too_deep, unexpected, no_graph, checks}
+use Rattle.language_model.proofs.parts.Accepted.{refused_check}
 use Rattle.language_model.specs.CheckedGraph.{CheckedGraph}
 use Rattle.language_model.specs.Checking.{checked}
 use Rattle.language_model.specs.Flat.{IsFlat}

@@ -3,7 +3,8 @@ ghost use Rattle.stream_model.specs.declared.plan.StateKind.TheVariants as K;
 ghost use Rattle.stream_model.specs.CheckedMeaning.{graph_of};
 ghost use Rattle.stream_model.specs.Meaning.{Graph};
 ghost use Rattle.stream_model.specs.Operators.{Operator};
-ghost use Rattle.stream_model.specs.StateKinds.{has_mutable, state_of};
+ghost use Rattle.stream_model.specs.StateKinds.{state_of};
+ghost use Rattle.stream_model.specs.parts.StateKinds.{has_mutable};
 ghost use Rattle.stream_model.specs.Windows.{flushes_at_markers};
 
 use language_model::{Checked, CheckedClauses, Handlers, WindowRule};

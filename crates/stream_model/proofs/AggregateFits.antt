@@ -26,7 +26,9 @@ use Rattle.stream_model.specs.Stream.{Event}
 use Rattle.stream_model.specs.Operators.{Operator}
 use Rattle.stream_model.specs.PortEvents.{items_of}
 use Rattle.stream_model.specs.Bodies.{Makes, most_turns, at_tuple}
-use Rattle.stream_model.specs.Aggregates.{arguments, done_or_none, fired_give, marker_passed, aggregate_body}
+use Rattle.stream_model.specs.Aggregates.{arguments, fired_give, aggregate_body}
+use Rattle.stream_model.proofs.parts.Aggregates.{done_or_none}
+use Rattle.stream_model.specs.parts.Aggregates.{marker_passed}
 use Rattle.stream_model.specs.React.{answer, makes_by}
 use Rattle.stream_model.specs.Replies.{ItemHas, AllFit, given_attributes}
 use Rattle.stream_model.specs.Windows.{fired_at, partition_key}

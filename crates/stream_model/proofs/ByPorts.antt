@@ -7,10 +7,14 @@ use Rattle.spl_value.specs.declared.item.Item.TheVariants as I
 use Rattle.language_model.specs.declared.checked.CheckedClauses.{CheckedClauses}
 use Rattle.language_model.specs.declared.checked.CheckedClauses.TheVariants as A
 use Rattle.stream_model.specs.Stream.{Event, came, is_final, is_fault, is_empty}
-use Rattle.stream_model.specs.Operators.{Operator, ports, ports_from, port_at}
-use Rattle.stream_model.specs.PortEvents.{by_ports, is_over, all_over, port_ended, all_ended, is_waiting, is_last, port_events}
+use Rattle.stream_model.specs.Operators.{Operator, ports, ports_from}
+use Rattle.stream_model.specs.parts.Operators.{port_at}
+use Rattle.stream_model.specs.PortEvents.{by_ports, is_over, all_over, is_waiting, is_last, port_events}
+use Rattle.stream_model.specs.parts.PortEvents.{port_ended}
+use Rattle.stream_model.proofs.parts.PortEvents.{all_ended}
 use Rattle.stream_model.specs.Bodies.{on_each}
-use Rattle.stream_model.specs.React.{Reaction, Gives, Faults, answer, makes_by, port_body, body, ended, ended_by, answered}
+use Rattle.stream_model.specs.React.{Reaction, Gives, Faults, answer, makes_by, body, ended, ended_by, answered}
+use Rattle.stream_model.specs.parts.React.{port_body}
 use Rattle.stream_model.specs.PortLaws.{has_connections, name_inputs, at_port, ByPortsLaw, WaitingLaw, PortEndLaw, SinglePortsLaw}
 use Rattle.stream_model.proofs.Waiting.{all_over-not, port_at-is, slice_get-past}
 

@@ -14,8 +14,11 @@ use Rattle.language_model.specs.declared.checked.WindowRule.{WindowRule}
 use Rattle.language_model.specs.declared.checked.WindowRule.TheVariants as W
 use Rattle.stream_model.specs.Stream.{is_empty}
 use Rattle.spl_value.specs.KeyOrder.{key_cmp, same_key, each_key}
-use Rattle.stream_model.specs.Groups.{of_group, groups}
-use Rattle.stream_model.specs.Windows.{WindowEvent, Silent, Triggers, Insert, Mark, window_events, tuples_with, keys_of, since_mark, in_order, last_of, is_start, last_start, since_start, near, exceeds, held, relevant, content, flush_if, trigger_if, contents_of, fires_behind, flushed_behind, fired_at}
+use Rattle.stream_model.specs.Groups.{groups}
+use Rattle.stream_model.specs.parts.Groups.{of_group}
+use Rattle.stream_model.specs.Windows.{WindowEvent, Silent, Triggers, Insert, Mark, window_events, tuples_with, keys_of, since_mark, in_order, is_start, last_start, since_start, near, exceeds, held, content, trigger_if, contents_of, fires_after, flushed_after, fired_at}
+use Rattle.stream_model.proofs.parts.Windows.{last_of}
+use Rattle.stream_model.specs.parts.Windows.{relevant, flush_if}
 use Rattle.spl_value.proofs.KeyOrder.{same_key-itself}
 
 -- ---- lists
@@ -158,7 +161,7 @@ module _ (P : List Value → Type 0) where
       if_due true = (all, tt)
       if_due false = tt
 
-  all_fires : (rule : WindowRule) (t : List Value) (ts : List (List Value)) → P t → AllTuples ts → AllContents (contents_of (fires_behind rule t ts))
+  all_fires : (rule : WindowRule) (t : List Value) (ts : List (List Value)) → P t → AllTuples ts → AllContents (contents_of (fires_after rule t ts))
   all_fires (W.TumblingCount n) t ts is all = all_flush ((suc (length ts) % n) == 0) (last_of n (t ∷ ts)) (all_last P n (t ∷ ts) (is, all))
   all_fires (W.TumblingDelta a limit) t ts is all =
       all_flush (is_start (exceeds a limit) t (last_start (exceeds a limit) ts) && not (is_empty ts)) (held (W.TumblingDelta a limit) ts)
@@ -169,7 +172,7 @@ module _ (P : List Value → Type 0) where
   all_fires (W.SlidingDelta a limit every) t ts is all =
       all_trigger every (suc (length ts)) (held (W.SlidingDelta a limit every) (t ∷ ts)) (all_held (W.SlidingDelta a limit every) (t ∷ ts) (is, all))
 
-  all_flushed : (rule : WindowRule) (h : List WindowEvent) → AllInserted h → AllByRecursion (EntryIs AllTuples) (flushed_behind rule h)
+  all_flushed : (rule : WindowRule) (h : List WindowEvent) → AllInserted h → AllByRecursion (EntryIs AllTuples) (flushed_after rule h)
   all_flushed W.TumblingPunct h all =
       all_each_key AllTuples (λ k. content W.TumblingPunct k h) (keys_of (since_mark h))
       (every (λ k. AllTuples (content W.TumblingPunct k h)) (keys_of (since_mark h)) (λ k. all_content W.TumblingPunct k h all))
@@ -184,7 +187,7 @@ module _ (P : List Value → Type 0) where
   all_fired rule key (I.Tuple t) earlier is all =
       all_fires rule t (tuples_with (key t) (window_events key earlier)) is (all_tuples_with (key t) (window_events key earlier) (inserted_of key earlier all))
   all_fired rule key I.Window earlier is all =
-      all_map (EntryIs AllTuples) AllTuples (λ e. e.1) (flushed_behind rule (window_events key earlier)) (λ e h. h)
+      all_map (EntryIs AllTuples) AllTuples (λ e. e.1) (flushed_after rule (window_events key earlier)) (λ e h. h)
       (all_flushed rule (window_events key earlier) (inserted_of key earlier all))
   all_fired rule key I.Final earlier is all = tt
   all_fired rule key (I.Bad f) earlier is all = tt

@@ -12,7 +12,9 @@ use Rattle.language_model.specs.declared.checked.WindowRule.{WindowRule}
 use Rattle.language_model.specs.declared.checked.WindowRule.TheVariants as W
 use Rattle.stream_model.specs.Stream.{is_empty}
 use Rattle.spl_value.specs.KeyOrder.{same_key}
-use Rattle.stream_model.specs.Windows.{flushes_at_markers, WindowEvent, Insert, Mark, partition_key, window_events, tuples_with, has_come, since_mark, in_order, last_of, is_start, last_start, since_start, near, exceeds, held, relevant, content, flush_if, trigger_if, fires_behind}
+use Rattle.stream_model.specs.Windows.{flushes_at_markers, WindowEvent, Insert, Mark, partition_key, window_events, tuples_with, has_come, since_mark, in_order, is_start, last_start, since_start, near, exceeds, held, content, trigger_if, fires_after}
+use Rattle.stream_model.proofs.parts.Windows.{last_of}
+use Rattle.stream_model.specs.parts.Windows.{relevant, flush_if}
 use Rattle.stream_model.specs.WindowLaws.{FromStart, exceeds_first, with_key, TumblingCountLaw, SlidingCountLaw, TumblingDeltaLaw, SlidingDeltaLaw, TumblingCountInsert, TumblingDeltaInsert, TumblingPunctInsert, SlidingCountInsert, SlidingDeltaInsert, PortLaw, OneKeyLaw, OwnKeyLaw}
 use Rattle.spl_value.proofs.KeyOrder.{same_key-itself}
 
@@ -329,5 +331,5 @@ own_key_law rule k g h = (
   λ e same.
       ap (λ ts. held rule ts)
       (ap (λ w. tuples_with k w) (all_relevant rule g e) ∙ same ∙ ap (λ w. tuples_with k w) (sym (all_relevant rule h e))),
-  λ same t. ap (λ ts. fires_behind rule t ts) same,
+  λ same t. ap (λ ts. fires_after rule t ts) same,
 )

@@ -1,6 +1,6 @@
 -- The rows of a file by its lines.
 use Rattle.std.proofs.Common.{ℕ, ◌+◌, ◌-◌, ◌≤◌, ◌==◌, Bool, true, false, cond, ◌&&◌, ◌||◌, List, [], ◌∷◌, ◌++◌, ◌≡◌, refl, sym, ap, ◌∙◌, append_assoc, map, length, None, arith}
-use Rattle.std.specs.List.{All, cons_option, count_by, filter_map, flat_map, list_any}
+use Rattle.std.specs.List.{All, cons_option, count_by, filter_map, flat_map, list_any, onto_first}
 use Rattle.std.proofs.lemmas.Bool.{cond-false, le-ltb, or_parts}
 use Rattle.std.proofs.lemmas.List.Elements.{All-head, All-tail}
 use Rattle.std.proofs.lemmas.List.Sums.{sum_by-cons}
@@ -9,7 +9,9 @@ use Rattle.spl_value.specs.declared.item.Item.{Item}
 use Rattle.spl_value.specs.declared.item.Item.TheVariants as I
 use Rattle.spl_value.specs.declared.item.FaultKind.TheVariants as K
 use Rattle.spl_value.specs.declared.value.Value.{Value}
-use Rattle.stream_model.specs.Rows.{Setting, Given, Row, Nothing, Bad, pieces, onto_first, line_gives, line_items, checked_items, too_long, last_items, items_from, closing, cut_short, source_fault}
+use Rattle.stream_model.specs.Rows.{Setting, Given, Row, Nothing, Bad, line_gives, line_items, checked_items, too_long, last_items, items_from, closing, source_fault}
+use Rattle.stream_model.specs.parts.Rows.{pieces}
+use Rattle.stream_model.proofs.parts.Rows.{cut_short}
 use Rattle.stream_model.specs.Laws.{but_last, unless_empty, but_empty_last, row_of, is_bad, tuples, any_bad, PiecesLaw, RowsLaw, FailedRowsLaw}
 
 abbrev is_feed : ℕ → Bool

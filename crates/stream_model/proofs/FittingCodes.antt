@@ -18,7 +18,7 @@ use Rattle.language_model.specs.CodeFits.{CodeFits}
 use Rattle.language_model.specs.Evaluation.{world_of}
 use Rattle.language_model.specs.Functions.{value}
 use Rattle.language_model.specs.Keeping.{ConditionFits, NamesPorts}
-use Rattle.language_model.specs.Operators.{truth_of}
+use Rattle.language_model.specs.parts.Operators.{truth_of}
 use Rattle.language_model.specs.Outcomes.{Outcome, Done, Faulted, Stuck, followed, need}
 use Rattle.language_model.specs.Statements.{level_tuple}
 use Rattle.language_model.specs.StreamTypes.{Attributes}

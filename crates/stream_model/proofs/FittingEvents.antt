@@ -7,7 +7,8 @@ use Rattle.language_model.specs.declared.checked.CheckedClauses.{CheckedClauses}
 use Rattle.language_model.specs.declared.checked.CheckedClauses.TheVariants as A
 use Rattle.language_model.specs.Outcomes.{Done, Faulted, Stuck}
 use Rattle.stream_model.specs.Stream.{Event, came, is_fault, is_tuple}
-use Rattle.stream_model.specs.Operators.{Operator, port_at, ports}
+use Rattle.stream_model.specs.Operators.{Operator, ports}
+use Rattle.stream_model.specs.parts.Operators.{port_at}
 use Rattle.stream_model.specs.PortEvents.{is_last, is_waiting, port_events}
 use Rattle.stream_model.specs.Bodies.{Makes, on_each, output}
 use Rattle.stream_model.specs.React.{Reaction, Gives, Faults, answer, answered, body, ended, ended_by, makes_by, own_fault}

@@ -4,7 +4,7 @@ use Rattle.std.specs.FinMap.{is_sorted}
 use Rattle.language_model.specs.declared.checked.WindowRule.TheVariants as W
 use Rattle.stream_model.specs.Stream.{is_empty}
 use Rattle.spl_value.specs.KeyOrder.{key_cmp}
-use Rattle.stream_model.specs.Windows.{tuples_with, keys_of, since_mark, in_order, content, flushed_behind}
+use Rattle.stream_model.specs.Windows.{tuples_with, keys_of, since_mark, in_order, content, flushed_after}
 use Rattle.stream_model.specs.WindowLaws.{EmptiedLaw, PassingLaw, FlushedBehindLaw, FiredLaw}
 use Rattle.spl_value.proofs.KeyOrder.{each_key-sorted, find-each_key, true_from}
 use Rattle.stream_model.proofs.Contents.{come_is}
@@ -33,7 +33,7 @@ turned false x y = refl
 
 pub flushed_behind_law : FlushedBehindLaw
 flushed_behind_law h = (
-  true_from (is_sorted key_cmp (flushed_behind W.TumblingPunct h)) (each_key-sorted (λ k. content W.TumblingPunct k h) (keys_of (since_mark h))),
+  true_from (is_sorted key_cmp (flushed_after W.TumblingPunct h)) (each_key-sorted (λ k. content W.TumblingPunct k h) (keys_of (since_mark h))),
   λ k.
       let held = content W.TumblingPunct k h in
       find-each_key (λ q. content W.TumblingPunct q h) k (keys_of (since_mark h))

@@ -38,7 +38,9 @@ use Rattle.language_model.proofs.Places.{places}
 use Rattle.language_model.proofs.Yielding.{IsThere, OfType, Yields, yields_followed}
 use Rattle.stream_model.specs.Stream.{is_empty}
 use Rattle.stream_model.specs.Bodies.{on_first}
-use Rattle.stream_model.specs.Aggregates.{argument, arguments, arguments_of, values_of, is_below, first_of_two, least_by, total, first, last, collected, attributes_from, group_tuple, tuples_of, slides, marker_after, marker_passed, contents_give}
+use Rattle.stream_model.specs.Aggregates.{arguments, values_of, is_below, least_by, total, last, collected, attributes_from, tuples_of, slides, contents_give}
+use Rattle.stream_model.specs.parts.Aggregates.{argument, arguments_of, first_of_two, first, marker_after, marker_passed}
+use Rattle.stream_model.proofs.parts.Aggregates.{group_tuple}
 use Rattle.stream_model.specs.Groups.{groups}
 use Rattle.stream_model.specs.Replies.{ItemHas}
 use Rattle.stream_model.proofs.ContentMembers.{all_append, EntryIs, AllTuples, IsGroup, all_groups}

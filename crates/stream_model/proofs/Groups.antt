@@ -6,7 +6,8 @@ use Rattle.spl_value.specs.declared.value.Value.{Value}
 use Rattle.spl_value.specs.Key.{key_of}
 use Rattle.stream_model.specs.Stream.{is_empty}
 use Rattle.spl_value.specs.KeyOrder.{key_cmp, same_key, each_key}
-use Rattle.stream_model.specs.Groups.{of_group, groups}
+use Rattle.stream_model.specs.Groups.{groups}
+use Rattle.stream_model.specs.parts.Groups.{of_group}
 use Rattle.stream_model.specs.GroupLaws.{AscendingLaw, GroupLaw, MemberLaw, MappedGroupsLaw, KeyBehindLaw}
 use Rattle.stream_model.proofs.MappedWindows.{map_each_key, get_behind, tuples_if}
 use Rattle.spl_value.proofs.KeyOrder.{each_key-sorted, find-each_key, true_from}

@@ -6,7 +6,8 @@ use Rattle.stream_model.specs.Stream.{Event}
 use Rattle.stream_model.specs.Operators.{Operator}
 use Rattle.stream_model.specs.React.{react, ended}
 use Rattle.spl_value.specs.declared.item.Item.{Item}
-use Rattle.stream_model.specs.Stages.{Stage, start, gives, next, gives_all, stage_after, on_port, out}
+use Rattle.stream_model.specs.Stages.{Stage, start, next, gives_all, stage_after, on_port, out}
+use Rattle.stream_model.proofs.parts.Stages.{gives}
 use Rattle.stream_model.proofs.StageLaws.{stage_at, gives_all-append, after-append, on_port-append, after-over}
 use Rattle.stream_model.specs.Laws.{StartLaw, HistoryLaw, EndLaw, LiveLaw, has_ended}
 

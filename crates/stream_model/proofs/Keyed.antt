@@ -14,13 +14,16 @@ use Rattle.language_model.specs.Outcomes.{Done, followed, need}
 use Rattle.stream_model.specs.declared.plan.StateKind.TheVariants as K
 use Rattle.stream_model.specs.Stream.{Event, came, is_tuple}
 use Rattle.spl_value.specs.KeyOrder.{same_key}
-use Rattle.stream_model.specs.Operators.{Operator, port_at}
+use Rattle.stream_model.specs.Operators.{Operator}
+use Rattle.stream_model.specs.parts.Operators.{port_at}
 use Rattle.stream_model.specs.PortEvents.{is_waiting, items_of, port_events}
 use Rattle.stream_model.specs.Windows.{contents_of, fired_at, flushes_at_markers, partition_key, tuples_with, window_events}
 use Rattle.stream_model.specs.Bodies.{Makes, at_tuple, most_turns}
-use Rattle.stream_model.specs.Aggregates.{arguments, contents_give, marker_passed}
+use Rattle.stream_model.specs.Aggregates.{arguments, contents_give}
+use Rattle.stream_model.specs.parts.Aggregates.{marker_passed}
 use Rattle.stream_model.specs.React.{answer, answered, react}
-use Rattle.stream_model.specs.StateKinds.{has_mutable, is_keyed, state_of}
+use Rattle.stream_model.specs.StateKinds.{is_keyed, state_of}
+use Rattle.stream_model.specs.parts.StateKinds.{has_mutable}
 use Rattle.stream_model.specs.Replies.{is_live}
 use Rattle.stream_model.specs.Regions.{IsLocal, tuples_of_key}
 use Rattle.stream_model.specs.RegionLaws.{KeyedLaw}

@@ -28,13 +28,17 @@ use Rattle.language_model.specs.Outcomes.{Outcome, Done, Faulted, Stuck, followe
 use Rattle.language_model.specs.Statements.{Left}
 use Rattle.language_model.proofs.Returning.{Only}
 use Rattle.stream_model.specs.Stream.{Event, closes}
-use Rattle.stream_model.specs.Operators.{Operator, ports, port_at}
+use Rattle.stream_model.specs.Operators.{Operator, ports}
+use Rattle.stream_model.specs.parts.Operators.{port_at}
 use Rattle.stream_model.specs.PortEvents.{items_of, port_events}
 use Rattle.stream_model.specs.Windows.{integer_of, partition_key, fired_at}
 use Rattle.stream_model.specs.Groups.{groups}
 use Rattle.stream_model.specs.Bodies.{Makes, most_turns, output, on_first, on_each, at_tuple, holds, passes, tuple_by, made_where, by_item, with_marker, on_picked, values_at}
-use Rattle.stream_model.specs.Customs.{handler, tuple_env, marker_env, left_by, item_leaves, state, custom_body}
-use Rattle.stream_model.specs.Aggregates.{arguments, group_tuple, tuples_of, slides, marker_after, marker_passed, contents_give, fired_give, aggregate_body}
+use Rattle.stream_model.specs.Customs.{handler, marker_env, left_by, item_leaves, state, custom_body}
+use Rattle.stream_model.specs.parts.Customs.{tuple_env}
+use Rattle.stream_model.specs.Aggregates.{arguments, tuples_of, slides, contents_give, fired_give, aggregate_body}
+use Rattle.stream_model.proofs.parts.Aggregates.{group_tuple}
+use Rattle.stream_model.specs.parts.Aggregates.{marker_after, marker_passed}
 use Rattle.stream_model.specs.Joins.{pairs_at, pairs_give}
 use Rattle.stream_model.specs.React.{Reaction, Gives, Faults, answer, makes_by, body}
 use Rattle.stream_model.specs.Laws.{BodyLaw, BodyPorts, SinkPorts, is_custom}

@@ -33,3 +33,4 @@ pub mod AggregateFits
 pub mod CheckedOperators
 pub mod GroupTuples
 pub mod GraphParts
+pub mod parts

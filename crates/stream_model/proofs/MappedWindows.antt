@@ -11,7 +11,9 @@ use Rattle.language_model.specs.declared.checked.WindowRule.{WindowRule}
 use Rattle.language_model.specs.declared.checked.WindowRule.TheVariants as W
 use Rattle.stream_model.specs.Stream.{is_empty}
 use Rattle.spl_value.specs.KeyOrder.{key_cmp, same_key, each_key}
-use Rattle.stream_model.specs.Windows.{WindowEvent, Firing, contents_of, Insert, Mark, tuples_with, keys_of, since_mark, in_order, last_of, is_start, last_start, since_start, near, integer_in, integer_at, exceeds, held, relevant, content, Silent, Flushes, Triggers, flush_if, trigger_if, fires_behind, tuple_fires, flushed_behind, fired_contents}
+use Rattle.stream_model.specs.Windows.{WindowEvent, Firing, contents_of, Insert, Mark, tuples_with, keys_of, since_mark, in_order, is_start, last_start, since_start, near, integer_at, exceeds, held, content, Silent, Flushes, Triggers, trigger_if, fires_after, flushed_after, fired_contents}
+use Rattle.stream_model.proofs.parts.Windows.{last_of}
+use Rattle.stream_model.specs.parts.Windows.{integer_in, relevant, flush_if, tuple_fires}
 use Rattle.stream_model.specs.WindowLaws.{mapped, mapped_event, Keeps, AllKeep, map_firing, MappedLaw, MappedFiringLaw, BehindLaw}
 use Rattle.stream_model.proofs.ContentMembers.{all_in_order}
 use Rattle.spl_value.proofs.Lists.{map_length}
@@ -188,7 +190,7 @@ map_trigger f (Some every) m ts = go ((m % every) == 0)
     go false = refl
 
 map_fires_behind : (rule : WindowRule) (f : List Value → List Value) (t : List Value) (ts : List (List Value)) → Keeps rule f t → AllByRecursion (Keeps rule f) ts
-    → fires_behind rule (f t) (map f ts) ≡ map_firing f (fires_behind rule t ts)
+    → fires_after rule (f t) (map f ts) ≡ map_firing f (fires_after rule t ts)
 map_fires_behind (W.TumblingCount n) f t ts p all =
     (λ i. flush_if ((suc (map_length f ts i) % n) == 0) (map_last f n (t ∷ ts) i))
     ∙ map_flush f ((suc (length ts) % n) == 0) (last_of n (t ∷ ts))
@@ -206,7 +208,7 @@ map_fires_behind (W.SlidingDelta a limit every) f t ts p all =
 map_fires : (rule : WindowRule) (f : List Value → List Value) (k t : List Value) (h : List WindowEvent) → AllKeep rule f (Insert k t ∷ h)
     → tuple_fires rule k (f t) (mapped f h) ≡ map_firing f (tuple_fires rule k t h)
 map_fires rule f k t h all =
-    ap (λ ts. fires_behind rule (f t) ts) (map_tuples f k h)
+    ap (λ ts. fires_after rule (f t) ts) (map_tuples f k h)
     ∙ map_fires_behind rule f t (tuples_with k h) all.0 (all_tuples rule f k h all.1)
 
 -- ---- flushes
@@ -233,7 +235,7 @@ module _ (f : List Value → List Value) where
   map_each_key c d same (k ∷ ks) = (λ i. put key_cmp k (same k i) (map_each_key c d same ks i)) ∙ map_put k (d k) (each_key d ks)
 
 map_flushed : (rule : WindowRule) (f : List Value → List Value) (h : List WindowEvent) → AllKeep rule f h
-    → flushed_behind rule (mapped f h) ≡ map (λ e. (e.0, map f e.1)) (flushed_behind rule h)
+    → flushed_after rule (mapped f h) ≡ map (λ e. (e.0, map f e.1)) (flushed_after rule h)
 map_flushed (W.TumblingCount n) f h all = refl
 map_flushed (W.TumblingDelta a limit) f h all = refl
 map_flushed W.TumblingPunct f h all =
@@ -254,7 +256,7 @@ map_seconds f (e ∷ es) = ap (λ zs. map f e.1 ∷ zs) (map_seconds f es)
 
 map_fired : (rule : WindowRule) (f : List Value → List Value) (h : List WindowEvent) (e : WindowEvent) → AllKeep rule f (e ∷ h)
     → fired_contents rule (mapped_event f e) (mapped f h) ≡ map (map f) (fired_contents rule e h)
-map_fired rule f h Mark all = ap (λ es. map (λ e. e.1) es) (map_flushed rule f h all) ∙ map_seconds f (flushed_behind rule h)
+map_fired rule f h Mark all = ap (λ es. map (λ e. e.1) es) (map_flushed rule f h all) ∙ map_seconds f (flushed_after rule h)
 map_fired rule f h (Insert k t) all =
     ap (λ x. contents_of x) (map_fires rule f k t h all) ∙ map_contents_of f (tuple_fires rule k t h)
 

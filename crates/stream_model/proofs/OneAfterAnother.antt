@@ -8,14 +8,17 @@ use Rattle.spl_value.specs.declared.item.Item.{Item}
 use Rattle.spl_value.specs.declared.item.Item.TheVariants as I
 use Rattle.stream_model.specs.Stream.{Event, came, closes, is_closed, is_empty, IsPrefix}
 use Rattle.stream_model.specs.Inputs.{inputs_of}
-use Rattle.stream_model.specs.Operators.{Operator, ports, port_at}
+use Rattle.stream_model.specs.Operators.{Operator, ports}
+use Rattle.stream_model.specs.parts.Operators.{port_at}
 use Rattle.stream_model.specs.PortEvents.{is_over, all_over, is_waiting, is_last}
 use Rattle.stream_model.specs.React.{body, ended, ended_by}
 use Rattle.stream_model.specs.Stages.{Stage, start, next, stage_after}
 use Rattle.stream_model.proofs.ByPorts.{over_stays}
 use Rattle.stream_model.proofs.StageLaws.{stage_at, after-over}
-use Rattle.stream_model.specs.Meaning.{Lists, with_list, taking, arrive}
-use Rattle.stream_model.specs.Records.{names_inputs, finds_items, ends_at_last, is_whole, up_to_end, inputs_from, all_items, input_after_input}
+use Rattle.stream_model.specs.Meaning.{Lists, taking, arrive}
+use Rattle.stream_model.proofs.parts.Meaning.{with_list}
+use Rattle.stream_model.specs.Records.{ends_at_last, is_whole, up_to_end, inputs_from, all_items, input_after_input}
+use Rattle.stream_model.specs.parts.Records.{names_inputs, finds_items}
 use Rattle.stream_model.specs.RecordLaws.{OneAfterAnotherLaw}
 use Rattle.stream_model.proofs.Records.{takes_entries, length-inputs_of}
 use Rattle.stream_model.proofs.Closings.{ended_by-last}

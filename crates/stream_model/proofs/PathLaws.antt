@@ -9,12 +9,11 @@ use Rattle.spl_tree.specs.declared.body.Function.{Function}
 use Rattle.spl_tree.specs.declared.code.Code.{Code}
 use Rattle.spl_tree.specs.declared.code.Slot.{Slot}
 use Rattle.stream_model.specs.Stream.{Event, came}
-use Rattle.language_model.specs.Outcomes.{Outcome, Done, Faulted, Stuck}
+use Rattle.language_model.specs.Outcomes.{Outcome, Done, Faulted, Stuck, followed}
 use Rattle.spl_value.specs.declared.item.FaultKind.{FaultKind}
 use Rattle.spl_value.specs.declared.item.FaultKind.TheVariants as K
 use Rattle.language_model.specs.declared.checked.CheckedClauses.TheVariants as A
 use Rattle.language_model.specs.declared.checked.PortTypes.{PortTypes}
-use Rattle.language_model.specs.Outcomes.{followed}
 use Rattle.language_model.specs.StreamTypes.{Attributes}
 use Rattle.stream_model.specs.Operators.{Operator}
 use Rattle.stream_model.specs.Bodies.{Makes, at_tuple, most_turns, passes, on_first, on_each}
@@ -23,7 +22,8 @@ use Rattle.stream_model.specs.Stages.{gives_all, on_port, out}
 use Rattle.stream_model.specs.Laws.{is_made, IsOrdered, IsNumbered}
 use Rattle.stream_model.proofs.OrderLaws.{IsOrdered-nil, IsOrdered-cons, at_only}
 use Rattle.stream_model.specs.Rows.{item_text, text_of}
-use Rattle.stream_model.specs.Ends.{fault_of, stream_fault, end_from, operator_fault}
+use Rattle.stream_model.specs.Ends.{fault_of, stream_fault, end_from}
+use Rattle.stream_model.specs.parts.Ends.{operator_fault}
 use Rattle.stream_model.proofs.StageLaws.{stage_at, one_in, one_in-parts, gives_all-over}
 use Rattle.stream_model.specs.PathLaws.{fault_by, pass, passed, path_filter, path_graph, path_sink, path_source, written}
 

@@ -13,7 +13,8 @@ use Rattle.csv.specs.declared.parser.State.TheVariants as st
 use Rattle.spl_value.specs.declared.types.Named.{Named}
 use Rattle.spl_value.specs.declared.types.SplType.{SplType}
 use Rattle.stream_model.specs.Fields.{tuple_of}
-use Rattle.stream_model.specs.Rows.{Nothing, fitting, line_gives}
+use Rattle.stream_model.specs.Rows.{Nothing, line_gives}
+use Rattle.stream_model.proofs.parts.Rows.{fitting}
 
 -- a byte that means something to `csv` beside a comma
 abbrev pub is_mark : ℕ → Bool

@@ -7,8 +7,10 @@ use Rattle.stream_model.specs.Stream.{Event, came, is_empty, IsPrefix}
 use Rattle.stream_model.specs.Inputs.{inputs_of, came_on}
 use Rattle.stream_model.specs.Stages.{Stage, start, next, stage_after}
 use Rattle.stream_model.proofs.StageLaws.{after-over}
-use Rattle.stream_model.specs.Meaning.{Lists, with_list, taking, arrive}
-use Rattle.stream_model.specs.Records.{names_inputs, finds_items, ends_at_last}
+use Rattle.stream_model.specs.Meaning.{Lists, taking, arrive}
+use Rattle.stream_model.proofs.parts.Meaning.{with_list}
+use Rattle.stream_model.specs.Records.{ends_at_last}
+use Rattle.stream_model.specs.parts.Records.{names_inputs, finds_items}
 use Rattle.stream_model.specs.RecordLaws.{EntriesLaw, ItemsLaw, NextItemLaw, NothingLeftLaw, WholeLaw}
 
 -- ---- entries

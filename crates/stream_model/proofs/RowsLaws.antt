@@ -5,7 +5,10 @@ use Rattle.spl_value.specs.declared.item.Item.{Item}
 use Rattle.spl_value.specs.declared.item.FaultKind.{FaultKind}
 use Rattle.spl_value.specs.declared.item.FaultKind.TheVariants as K
 use Rattle.stream_model.specs.Stream.{is_closed}
-use Rattle.stream_model.specs.Rows.{Setting, Given, Row, Nothing, Bad, pieces, onto_first, line_gives, line_items, checked_items, too_long, last_items, items_from, closing, cut_short, source_fault}
+use Rattle.stream_model.specs.Rows.{Setting, Given, Row, Nothing, Bad, line_gives, line_items, checked_items, too_long, last_items, items_from, closing, source_fault}
+use Rattle.stream_model.specs.parts.Rows.{pieces}
+use Rattle.std.specs.List.{onto_first}
+use Rattle.stream_model.proofs.parts.Rows.{cut_short}
 use Rattle.stream_model.specs.Laws.{RowsClose}
 
 line_items-closed : (o : Setting) (line : ℕ) (given : Given) (more : List Item) → is_closed more ≡ true → is_closed (line_items o line given more) ≡ true

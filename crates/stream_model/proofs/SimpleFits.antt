@@ -40,7 +40,8 @@ use Rattle.language_model.specs.WorldFits.{EnvFits, FunctionsFit}
 use Rattle.language_model.proofs.Yielding.{AnyAnswer, IsThere, OfType, Yields, yields_followed, yields_need}
 use Rattle.stream_model.specs.Stream.{Event}
 use Rattle.stream_model.specs.Operators.{Operator}
-use Rattle.stream_model.specs.Bodies.{Makes, at_tuple, made_where, most_turns, filter_body, functor_body, holds, on_each, on_first, on_picked, output, passes, punctor_body, sink_body, split_body, tuple_by, union_body, values_at, with_marker}
+use Rattle.stream_model.specs.Bodies.{Makes, at_tuple, made_where, most_turns, filter_body, functor_body, holds, on_each, on_first, on_picked, output, passes, punctor_body, split_body, tuple_by, union_body, values_at, with_marker}
+use Rattle.stream_model.specs.parts.Bodies.{sink_body}
 use Rattle.stream_model.specs.React.{makes_by}
 use Rattle.stream_model.specs.Windows.{integer_of}
 use Rattle.stream_model.specs.Replies.{AllFit, ItemHas, given_attributes}

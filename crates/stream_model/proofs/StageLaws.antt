@@ -9,7 +9,8 @@ use Rattle.stream_model.specs.Stream.{Event}
 use Rattle.language_model.specs.declared.checked.CheckedClauses.{CheckedClauses}
 use Rattle.language_model.specs.declared.checked.PortTypes.{PortTypes}
 use Rattle.stream_model.specs.Operators.{Operator}
-use Rattle.stream_model.specs.Stages.{Stage, gives, next, gives_all, stage_after, on_port}
+use Rattle.stream_model.specs.Stages.{Stage, next, gives_all, stage_after, on_port}
+use Rattle.stream_model.proofs.parts.Stages.{gives}
 
 -- an operator after these events, the newest first, over or not
 abbrev pub stage_at : Operator → List Event → Bool → Stage

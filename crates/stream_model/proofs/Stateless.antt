@@ -19,7 +19,8 @@ use Rattle.stream_model.specs.PortEvents.{port_events}
 use Rattle.stream_model.specs.Bodies.{Makes}
 use Rattle.stream_model.specs.Customs.{changed, first_value, item_leaves, state, vars_after}
 use Rattle.stream_model.specs.React.{answer, answered, makes_by, react}
-use Rattle.stream_model.specs.StateKinds.{has_mutable, state_of}
+use Rattle.stream_model.specs.StateKinds.{state_of}
+use Rattle.stream_model.specs.parts.StateKinds.{has_mutable}
 use Rattle.stream_model.specs.Regions.{IsStateless}
 use Rattle.stream_model.specs.RegionLaws.{StatelessLaw}
 use Rattle.stream_model.proofs.StageLaws.{one_in}

@@ -7,7 +7,8 @@ use Rattle.spl_value.specs.declared.item.Item.TheVariants as I
 use Rattle.stream_model.specs.Stream.{Event, is_final, is_fault, closes, any_closes, is_closed, is_empty}
 use Rattle.stream_model.specs.Inputs.{came_on}
 use Rattle.stream_model.specs.Operators.{Operator, ports}
-use Rattle.stream_model.specs.PortEvents.{is_over, all_over, all_ended, is_waiting, is_last}
+use Rattle.stream_model.specs.PortEvents.{is_over, all_over, is_waiting, is_last}
+use Rattle.stream_model.proofs.parts.PortEvents.{all_ended}
 use Rattle.stream_model.specs.React.{Reaction, Gives, Faults, body, ended, ended_by}
 use Rattle.stream_model.proofs.StageLaws.{stage_at}
 use Rattle.stream_model.specs.Meaning.{arrive}

@@ -4,7 +4,8 @@ use Rattle.std.specs.List.{concat, list_any}
 use Rattle.std.proofs.lemmas.Bool.{cond-true, cond-false, ne_eqb, eq-eqb, or_parts}
 use Rattle.spl_value.specs.declared.item.Item.TheVariants as I
 use Rattle.stream_model.specs.Stream.{Event, came, is_final}
-use Rattle.stream_model.specs.Operators.{Operator, ports_from, ports, port_at}
+use Rattle.stream_model.specs.Operators.{Operator, ports_from, ports}
+use Rattle.stream_model.specs.parts.Operators.{port_at}
 use Rattle.stream_model.specs.PortEvents.{is_over, all_over, is_waiting, is_last}
 use Rattle.stream_model.specs.React.{body, answered, ended_by}
 use Rattle.stream_model.specs.Laws.{WaitLaw, PortsLaw}

@@ -1,5 +1,5 @@
 -- Arrival records as they are handed out: a list for each operator with several connections, in the order of the operators.
-use Rattle.std.specs.Prelude.{ℕ, ◌==◌, Bool, true, false, List, [], ◌∷◌, Option, Some, None, if◌then◌else◌}
+use Rattle.std.specs.Prelude.{ℕ, ◌==◌, Bool, true, false, List, [], ◌∷◌, Some, None, if◌then◌else◌}
 use Rattle.std.specs.List.{filter_map}
 use Rattle.stream_model.specs.declared.record.ArrivalList.{ArrivalList}
 use Rattle.stream_model.specs.Operators.{Operator, connections}
@@ -17,8 +17,5 @@ has_several (s ∷ []) = false
 has_several (s ∷ t ∷ ss) = true
 
 -- the numbers of the operators with several connections
-abbrev pub if_several : Operator → Option ℕ
-if_several op = if has_several (connections op) then Some op.number else None
-
 abbrev pub several : Graph → List ℕ
-several g = filter_map if_several g.ops
+several g = filter_map (λ (op : Operator). if has_several (connections op) then Some op.number else None) g.ops

@@ -5,7 +5,7 @@
 -- for a row that doesn't fit; no run has such a tuple. The index of a Split that is no integer counts as 0.
 use Prim.Native.Nat.{zero, suc}
 use Rattle.std.specs.Prelude.{ℕ, ℤ, pos, negsuc, ◌%◌, Bool, true, List, [], ◌∷◌, ◌++◌, Option, None, Some, slice_get, if◌then◌else◌}
-use Rattle.std.specs.Option.{option_and_then, option_map}
+use Rattle.std.specs.Option.{option_and_then, option_map, option_map_or}
 use Rattle.spl_value.specs.declared.item.Item.{Item}
 use Rattle.spl_value.specs.declared.item.Item.TheVariants as I
 use Rattle.spl_value.specs.declared.value.Value.{Value}
@@ -19,7 +19,7 @@ use Rattle.language_model.specs.declared.env.Env.{Env}
 use Rattle.language_model.specs.declared.outs.Output.{Output}
 use Rattle.language_model.specs.Evaluation.{truth, world_of}
 use Rattle.language_model.specs.Functions.{value}
-use Rattle.language_model.specs.Outcomes.{Outcome, Done, followed, need}
+use Rattle.language_model.specs.Outcomes.{Outcome, Done, Faulted, Stuck, followed, need}
 use Rattle.language_model.specs.Statements.{level_tuple}
 use Rattle.stream_model.specs.Windows.{integer_of}
 
@@ -30,6 +30,12 @@ most_turns = 1000000
 -- what a body makes
 abbrev pub Makes : Type 0
 Makes = Outcome (List Output)
+
+-- what a function makes of the value of an outcome, or else another value
+abbrev pub done_or : {A B : Type 0} → (A → B) → Outcome A → B → B
+done_or f (Done x turns) other = f x
+done_or f (Faulted kind) other = other
+done_or f Stuck other = other
 
 -- ---- outputs
 
@@ -57,8 +63,7 @@ holds functions condition env turns = truth (value functions condition) (world_o
 
 -- the same of a condition that may be absent, and holds then
 abbrev pub passes : List Function → Option (Code Slot) → Env → ℕ → Outcome Bool
-passes functions None env turns = Done true turns
-passes functions (Some condition) env turns = holds functions condition env turns
+passes functions condition env turns = option_map_or (λ code. holds functions code env turns) condition (Done true turns)
 
 -- the tuple that an expression gives
 abbrev pub tuple_by : List Function → Code Slot → Env → ℕ → Outcome (List Value)
@@ -119,7 +124,3 @@ values_at vs (i ∷ is) = option_and_then (λ v. option_map (λ us. v ∷ us) (v
 -- a Union gives each tuple with its attributes taken by name, from their places in the tuples of its port
 abbrev pub union_body : List (List ℕ) → ℕ → Item → Makes
 union_body places port = by_item (λ vs. need (slice_get places port) (λ is. need (values_at vs is) (λ us. Done (on_first (I.Tuple us)) most_turns))) []
-
--- a FileSink gives its tuples to its writer, which stands as port 0
-abbrev pub sink_body : Item → Makes
-sink_body = by_item (λ vs. Done (on_first (I.Tuple vs)) most_turns) []

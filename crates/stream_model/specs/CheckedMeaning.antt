@@ -1,7 +1,7 @@
 -- The graph of operators of a checked graph, whose meaning is what the program means.
 use Prim.Native.Nat.{suc}
 use Rattle.std.specs.Prelude.{ℕ, List, [], ◌∷◌, map, slice_get}
-use Rattle.std.specs.Option.{unwrap_or}
+use Rattle.std.specs.Option.{option_map_or, unwrap_or}
 use Rattle.spl_tree.specs.declared.graph.Op.{Op}
 use Rattle.language_model.specs.declared.checked.CheckedClauses.{CheckedClauses}
 use Rattle.language_model.specs.CheckedGraph.{CheckedGraph}
@@ -15,20 +15,18 @@ schema_at c s = unwrap_or (slice_get c.schemas s) []
 
 -- the attributes of the streams of a port, which are those of the first
 abbrev pub first_schema : CheckedGraph → List ℕ → Attributes
-first_schema c [] = []
-first_schema c (s ∷ streams) = schema_at c s
+first_schema c streams = option_map_or (schema_at c) (slice_get streams 0) []
 
 -- the operator with this number and these clauses
 abbrev pub operator_with : CheckedGraph → ℕ → Op → CheckedClauses → Operator
-operator_with c n op part =
-    record {
-      number = n;
-      clauses = part;
-      functions = c.functions;
-      types = record { ins = map (first_schema c) op.ins; outs = map (schema_at c) op.outs };
-      ins = op.ins;
-      outs = op.outs;
-    }
+operator_with c n op part = record {
+  number = n;
+  clauses = part;
+  functions = c.functions;
+  types = record { ins = map (first_schema c) op.ins; outs = map (schema_at c) op.outs };
+  ins = op.ins;
+  outs = op.outs;
+}
 
 -- operators with their clauses, numbered from n on
 abbrev pub operators_from : CheckedGraph → ℕ → List Op → List CheckedClauses → List Operator

@@ -1,7 +1,7 @@
 -- Which attribute of its input an output attribute of an operator is a copy of, by the operator's clauses alone.
 use Rattle.std.specs.Prelude.{ℕ, zero, ◌==◌, Bool, true, false, List, [], ◌∷◌, ◌++◌, map, Option, None, Some, slice_get, if◌then◌else◌}
-use Rattle.std.specs.List.{list_any}
-use Rattle.std.specs.Option.{option_and_then}
+use Rattle.std.specs.List.{flat_map, list_any}
+use Rattle.std.specs.Option.{option_and_then, option_map_or}
 use Rattle.spl_tree.specs.declared.body.Statement.{Statement}
 use Rattle.spl_tree.specs.declared.body.Statement.TheOpen as S
 use Rattle.spl_tree.specs.declared.body.Statement.TheOpen.{Statement-F}
@@ -15,7 +15,6 @@ use Rattle.spl_tree.specs.declared.code.Slot.TheVariants as L
 use Rattle.language_model.specs.declared.checked.CollectedAttribute.{CollectedAttribute}
 use Rattle.language_model.specs.declared.checked.Collector.{Collector}
 use Rattle.language_model.specs.declared.checked.Collector.TheVariants as K
-use Rattle.language_model.specs.declared.checked.Handlers.{Handlers}
 use Rattle.language_model.specs.declared.checked.CheckedClauses.{CheckedClauses}
 use Rattle.language_model.specs.declared.checked.CheckedClauses.TheVariants as A
 use Rattle.language_model.specs.Slots.{joined}
@@ -62,9 +61,7 @@ submits_of row = joined (map (fold-Statement (List (Code Slot)) level_submits) r
 
 -- where there are bodies
 abbrev pub submits_in : List (Option (List Statement)) → List (Code Slot)
-submits_in [] = []
-submits_in (None ∷ bodies) = submits_in bodies
-submits_in (Some row ∷ bodies) = submits_of row ++ submits_in bodies
+submits_in bodies = flat_map (λ body. option_map_or submits_of body []) bodies
 
 -- ---- operators
 
@@ -75,10 +72,6 @@ agreed a (code ∷ []) = tuple_source a code
 agreed a (code ∷ next ∷ codes) =
     option_and_then (λ b. option_and_then (λ c. if c == b then Some b else None) (agreed a (next ∷ codes))) (tuple_source a code)
 
--- no body on a marker submits a tuple, and every tuple that is submitted is the input tuple itself or a literal that gives that attribute
-abbrev pub custom_source : Handlers → ℕ → Option ℕ
-custom_source handlers a = if is_empty (submits_in handlers.on_punct) then agreed a (submits_in handlers.on_tuple) else None
-
 -- Of an attribute of `partitionBy`, the first or the last of a group has the value that all tuples of the group's partition have.
 abbrev pub picks : Collector → Bool
 picks K.First = true
@@ -88,23 +81,22 @@ picks _ = false
 -- what an assignment of an Aggregate gives, where it is an attribute of `partitionBy` alone. An attribute that isn't assigned has the last
 -- tuple's attribute of its name
 abbrev pub kept_source : List ℕ → CollectedAttribute → Option ℕ
-kept_source partition x =
-    if picks x.collector
-    then option_and_then (λ b. if list_any (λ p. p == b) partition then Some b else None) (option_and_then attribute_alone x.argument)
-    else None
+kept_source partition x = if picks x.collector
+    then option_and_then (λ b. if list_any (λ p. p == b) partition then Some b else None) (option_and_then attribute_alone x.argument) else None
 
 abbrev pub aggregate_source : List ℕ → List CollectedAttribute → ℕ → Option ℕ
 aggregate_source partition [] a = None
 aggregate_source partition (x ∷ xs) a = if x.attribute == a then kept_source partition x else aggregate_source partition xs a
 
--- The input attribute of which an output attribute is a copy. Of a Union with several ports it is that of the first port.
+-- The input attribute of which an output attribute is a copy. Of a Union with several ports it is that of the first port. In a Custom no body on
+-- a marker submits a tuple, and every tuple that is submitted is the input tuple itself or a literal that gives that attribute.
 abbrev pub source_of : CheckedClauses → ℕ → Option ℕ
 source_of (A.Filter condition) a = Some a
 source_of (A.Punctor condition position) a = Some a
 source_of (A.Split index) a = Some a
 source_of (A.Union places) a = option_and_then (λ ps. slice_get ps a) (slice_get places 0)
 source_of (A.Functor condition made) a = tuple_source a made
-source_of (A.Custom handlers) a = custom_source handlers a
+source_of (A.Custom handlers) a = if is_empty (submits_in handlers.on_punct) then agreed a (submits_in handlers.on_tuple) else None
 source_of (A.Aggregate window partition group collects) a = aggregate_source partition collects a
 source_of (A.Join left right condition made) a = None
 source_of (A.FileSource file strict) a = None

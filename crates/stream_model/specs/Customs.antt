@@ -3,7 +3,7 @@
 --
 -- A first value that isn't one of literals, which no checked graph has, counts as false.
 use Rattle.std.specs.Prelude.{ℕ, false, List, [], ◌∷◌, map, Option, None, Some, slice_get, if◌then◌else◌}
-use Rattle.std.specs.Option.{option_and_then}
+use Rattle.std.specs.Option.{option_and_then, option_map_or}
 use Rattle.spl_value.specs.declared.item.Item.{Item}
 use Rattle.spl_value.specs.declared.item.Item.TheVariants as I
 use Rattle.spl_value.specs.declared.value.Value.{Value}
@@ -17,10 +17,10 @@ use Rattle.language_model.specs.declared.checked.StateVariable.{StateVariable}
 use Rattle.language_model.specs.declared.env.Env.{Env}
 use Rattle.language_model.specs.Evaluation.{world_of}
 use Rattle.language_model.specs.Functions.{function_env, runs, value}
-use Rattle.language_model.specs.Outcomes.{Outcome, Done, Faulted, Stuck, followed}
+use Rattle.language_model.specs.Outcomes.{Outcome, Done, followed}
 use Rattle.language_model.specs.Statements.{Left}
 use Rattle.stream_model.specs.Stream.{Event}
-use Rattle.stream_model.specs.Bodies.{Makes, most_turns}
+use Rattle.stream_model.specs.Bodies.{Makes, most_turns, done_or}
 
 -- ---- one event
 
@@ -28,10 +28,7 @@ use Rattle.stream_model.specs.Bodies.{Makes, most_turns}
 abbrev pub handler : List (Option (List Statement)) → ℕ → Option (List Statement)
 handler bodies port = option_and_then (λ b. b) (slice_get bodies port)
 
--- where the body for a tuple runs, and that for a marker: the variables of the state come first
-abbrev pub tuple_env : List Value → List Value → Env
-tuple_env vars vs = record { inputs = vs ∷ []; vars = vars; punct = None }
-
+-- where the body for a marker runs: the variables of the state come first
 abbrev pub marker_env : List Value → Marker → Env
 marker_env vars m = record { inputs = []; vars = vars; punct = Some m }
 
@@ -41,26 +38,21 @@ nothing vars = Done (record { vars = vars; submits = []; returned = None }) most
 
 -- what a body leaves, where there is one
 abbrev pub left_by : List Function → Option (List Statement) → Env → Outcome Left
-left_by functions None env = nothing env.vars
-left_by functions (Some body) env = runs functions body env most_turns
+left_by functions body env = option_map_or (λ row. runs functions row env most_turns) body (nothing env.vars)
 
 -- what an item on a port leaves, from these variables of the state
 abbrev pub item_leaves : List Function → Handlers → List Value → ℕ → Item → Outcome Left
-item_leaves functions handlers vars port (I.Tuple vs) = left_by functions (handler handlers.on_tuple port) (tuple_env vars vs)
+item_leaves functions handlers vars port (I.Tuple vs) =
+    left_by functions (handler handlers.on_tuple port) (record { inputs = vs ∷ []; vars = vars; punct = None })
 item_leaves functions handlers vars port I.Window = left_by functions (handler handlers.on_punct port) (marker_env vars M.Window)
 item_leaves functions handlers vars port I.Final = left_by functions (handler handlers.on_punct port) (marker_env vars M.Final)
 item_leaves functions handlers vars port (I.Bad f) = nothing vars
 
 -- ---- the state
 
-abbrev pub value_or : Value → Outcome Value → Value
-value_or other (Done v turns) = v
-value_or other (Faulted kind) = other
-value_or other Stuck = other
-
 -- the first value of a variable
 abbrev pub first_value : StateVariable → Value
-first_value x = value_or (V.Bool false) (value [] x.first (world_of (function_env [])) 0)
+first_value x = done_or (λ v. v) (value [] x.first (world_of (function_env [])) 0) (V.Bool false)
 
 -- the variables that are mutable have the new values, and the others keep theirs
 abbrev pub changed : List StateVariable → (olds news : List Value) → List Value
@@ -69,9 +61,7 @@ changed _ olds news = olds
 
 -- the variables as an event leaves them: a fault ends the operator, and they stay
 abbrev pub vars_after : List StateVariable → List Value → Outcome Left → List Value
-vars_after variables vars (Done left turns) = changed variables vars left.vars
-vars_after variables vars (Faulted kind) = vars
-vars_after variables vars Stuck = vars
+vars_after variables vars outcome = done_or (λ (left : Left). changed variables vars left.vars) outcome vars
 
 -- the variables of the state after a history, from their first values on
 abbrev pub state : List Function → Handlers → List Event → List Value

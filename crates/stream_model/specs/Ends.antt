@@ -32,10 +32,6 @@ abbrev pub end_from : Stage → List Event → Option Item
 end_from s [] = None
 end_from s (e ∷ es) = option_or (ended s.op s.seen e) (end_from (next s e) es)
 
--- the fault with which an operator ends for these events
-abbrev pub operator_fault : Operator → List Event → Option Fault
-operator_fault op events = option_and_then fault_of (end_from (start op) events)
-
 -- an operator reads the stream
 abbrev pub is_read : List Operator → ℕ → Bool
 is_read ops s = list_any (λ op. list_any (λ t. t == s) (connections op)) ops
@@ -52,7 +48,7 @@ first_fault (o ∷ os) = option_or o (first_fault os)
 -- the fault of the first of an operator's ends with one: its own where it has no output port, else that of one of its streams
 -- that nobody reads
 abbrev pub end_fault : Graph → Meaning → Operator → List ℕ → Option Fault
-end_fault g m op [] = operator_fault op (m.events op.number)
+end_fault g m op [] = option_and_then fault_of (end_from (start op) (m.events op.number))
 end_fault g m op (s ∷ outs) = first_fault (map (unread_fault g m) (s ∷ outs))
 
 -- the fault of a run: ends stand in the order of their operators, then of ports

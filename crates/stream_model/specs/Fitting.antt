@@ -12,10 +12,12 @@ use Rattle.language_model.specs.Keeping.{Keeps, NamesPorts, PartFits}
 use Rattle.language_model.specs.Outcomes.{Done, Faulted, Stuck}
 use Rattle.language_model.specs.WorldFits.{FunctionsFit}
 use Rattle.stream_model.specs.Stream.{Event}
-use Rattle.stream_model.specs.Operators.{Operator, input_attributes, port_at, ports}
+use Rattle.stream_model.specs.Operators.{Operator, input_attributes, ports}
+use Rattle.stream_model.specs.parts.Operators.{port_at}
 use Rattle.stream_model.specs.PortEvents.{port_events}
 use Rattle.stream_model.specs.Bodies.{Makes}
-use Rattle.stream_model.specs.React.{Reaction, Gives, Faults, makes_by, port_body, react}
+use Rattle.stream_model.specs.React.{Reaction, Gives, Faults, makes_by, react}
+use Rattle.stream_model.specs.parts.React.{port_body}
 use Rattle.stream_model.specs.CheckedMeaning.{graph_of}
 use Rattle.stream_model.specs.Replies.{AllFit, ItemHas, is_live}
 

@@ -6,7 +6,8 @@ use Rattle.spl_value.specs.declared.value.Value.{Value}
 use Rattle.spl_value.specs.Key.{key_of}
 use Rattle.stream_model.specs.Stream.{is_empty}
 use Rattle.spl_value.specs.KeyOrder.{key_cmp, same_key}
-use Rattle.stream_model.specs.Groups.{of_group, groups}
+use Rattle.stream_model.specs.Groups.{groups}
+use Rattle.stream_model.specs.parts.Groups.{of_group}
 
 -- the keys of the groups ascend, each once
 abbrev pub AscendingLaw : Type 0

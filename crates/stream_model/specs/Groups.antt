@@ -5,10 +5,6 @@ use Rattle.spl_value.specs.declared.value.Value.{Value}
 use Rattle.spl_value.specs.Key.{key_of}
 use Rattle.spl_value.specs.KeyOrder.{same_key, each_key}
 
--- the tuples of a group, in their order
-abbrev pub of_group : List ℕ → List (List Value) → List Value → List (List Value)
-of_group places ts k = filter (λ t. same_key k (key_of t places)) ts
-
--- each group once, by ascending key, with its tuples
+-- each group once, by ascending key, with its tuples in their order
 abbrev pub groups : List ℕ → List (List Value) → List (List Value × List (List Value))
-groups places ts = each_key (of_group places ts) (map (λ t. key_of t places) ts)
+groups places ts = each_key (λ k. filter (λ t. same_key k (key_of t places)) ts) (map (λ t. key_of t places) ts)

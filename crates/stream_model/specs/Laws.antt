@@ -15,7 +15,8 @@ use Rattle.stream_model.specs.React.{react, body, ended, Gives, Faults}
 use Rattle.stream_model.specs.Replies.{is_live}
 use Rattle.stream_model.specs.Stages.{start, stage_after, out, on_port, chain}
 use Rattle.spl_value.specs.Script.{Ending, End, Failed}
-use Rattle.stream_model.specs.Rows.{Setting, Given, Row, Nothing, Bad, pieces, line_gives, rows}
+use Rattle.stream_model.specs.Rows.{Setting, Given, Row, Nothing, Bad, line_gives, rows}
+use Rattle.stream_model.specs.parts.Rows.{pieces}
 use Rattle.stream_model.specs.Meaning.{Graph, Lists, Entries, meaning, makes, events_of, in_topo}
 
 abbrev pub has_ended : Operator → List Event → Bool

@@ -31,3 +31,4 @@ pub mod Records
 pub mod RecordLaws
 pub mod Arrivals
 pub mod examples
+pub mod parts

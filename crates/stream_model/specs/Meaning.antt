@@ -10,7 +10,7 @@ use Rattle.language_model.specs.declared.checked.CheckedClauses.{CheckedClauses}
 use Rattle.language_model.specs.declared.checked.CheckedClauses.TheVariants as A
 use Rattle.stream_model.specs.Operators.{Operator, connections, output_attributes}
 use Rattle.stream_model.specs.Stages.{out}
-use Rattle.stream_model.specs.Rows.{Setting, rows, text_of}
+use Rattle.stream_model.specs.Rows.{rows, text_of}
 
 -- the operators in order of declaration, and their numbers in topological order
 pub record Graph : Type 0 where
@@ -25,10 +25,6 @@ Lists = ℕ → List Item
 abbrev pub Entries : Type 0
 Entries = ℕ → List ℕ
 
--- the lists with another one for an input
-abbrev pub with_list : Lists → ℕ → List Item → Lists
-with_list lists i items j = if j == i then items else lists j
-
 -- an event of the first item of an input's list, and what comes after it
 abbrev pub taking : ℕ → List Item → (List Item → List Event) → List Event
 taking i [] behind = []
@@ -37,7 +33,7 @@ taking i (x ∷ items) behind = came i x ∷ behind items
 -- the events that the entries of a record take, each the next item of the list that it names, as far as each named list has one
 abbrev pub arrive : Lists → List ℕ → List Event
 arrive lists [] = []
-arrive lists (i ∷ entries) = taking i (lists i) (λ items. arrive (with_list lists i items) entries)
+arrive lists (i ∷ entries) = taking i (lists i) (λ items. arrive (λ j. if j == i then items else lists j) entries)
 
 -- the list of the stream at each input; none past the last one
 abbrev pub lists_at : Lists → List ℕ → Lists
@@ -76,25 +72,18 @@ pub record Meaning : Type 0 where
 abbrev pub in_topo : Graph → List Operator
 in_topo g = filter_map (slice_get g.ops) g.topo
 
-abbrev pub events_of_number : Graph → Lists → Entries → ℕ → List Event
-events_of_number g streams entries n = option_map_or (λ op. events_of op streams (entries n)) (slice_get g.ops n) []
-
 -- The meaning of a graph for the rows of each source and the arrival record of each operator with several connections,
 -- both by the operator's number.
 abbrev pub meaning : Graph → Lists → Entries → Meaning
-meaning g rows entries =
-    record {
-      streams = streams_of (reverse (in_topo g)) rows entries;
-      events = events_of_number g (streams_of (reverse (in_topo g)) rows entries) entries;
-    }
+meaning g rows entries = record {
+  streams = streams_of (reverse (in_topo g)) rows entries;
+  events = λ n. option_map_or (λ op. events_of op (streams_of (reverse (in_topo g)) rows entries) (entries n)) (slice_get g.ops n) [];
+}
 
--- how a source reads its file, which has at most 2^40 bytes: whether a bad row is a fault
-abbrev pub setting_of : Operator → Bool → Setting
-setting_of op strict = record { op = op.number; schema = output_attributes op 0; strict = strict; limit = 2 ^ 40 }
-
--- the stream of a source, for what its reader gives
+-- the stream of a source, for what its reader gives, of at most 2^40 bytes; a bad row is a fault where the source is strict
 abbrev pub rows_of : Operator → Bool → Script → List Item
-rows_of op strict script = rows (setting_of op strict) script.bytes script.ending
+rows_of op strict script =
+    rows (record { op = op.number; schema = output_attributes op 0; strict = strict; limit = 2 ^ 40 }) script.bytes script.ending
 
 -- the text that a sink writes for its events, up to its end
 abbrev pub text : Operator → List Event → List ℕ

@@ -1,5 +1,5 @@
 -- An operator of a graph, and the ports of its inputs.
-use Prim.Native.Nat.{zero, suc}
+use Prim.Native.Nat.{suc}
 use Rattle.std.specs.Prelude.{ℕ, List, [], ◌∷◌, ◌++◌, map, slice_get}
 use Rattle.std.specs.List.{concat}
 use Rattle.std.specs.Option.{unwrap_or}
@@ -37,9 +37,3 @@ ports_from p (streams ∷ ins) = map (λ s. p) streams ++ ports_from (suc p) ins
 -- the port of each input
 abbrev pub ports : Operator → List ℕ
 ports op = ports_from 0 op.ins
-
--- the port of an input
-abbrev pub port_at : List ℕ → ℕ → ℕ
-port_at [] i = 0
-port_at (p ∷ ps) zero = p
-port_at (p ∷ ps) (suc i) = port_at ps i

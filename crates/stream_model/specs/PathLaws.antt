@@ -18,7 +18,8 @@ use Rattle.stream_model.specs.Operators.{Operator}
 use Rattle.stream_model.specs.Bodies.{at_tuple, most_turns, passes}
 use Rattle.stream_model.specs.Stages.{out}
 use Rattle.stream_model.specs.Meaning.{Graph}
-use Rattle.stream_model.specs.Ends.{stream_fault, operator_fault}
+use Rattle.stream_model.specs.Ends.{stream_fault}
+use Rattle.stream_model.specs.parts.Ends.{operator_fault}
 
 -- a fault of the operator with this number itself
 abbrev pub fault_by : ℕ → FaultKind → Fault

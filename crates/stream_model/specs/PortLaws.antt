@@ -3,8 +3,10 @@
 use Rattle.std.specs.Prelude.{◌≡◌, ◌<◌, ℕ, Bool, true, false, not, List, [], ◌∷◌, length, None, nat_lt}
 use Rattle.std.specs.List.{list_all}
 use Rattle.stream_model.specs.Stream.{Event, came, is_empty}
-use Rattle.stream_model.specs.Operators.{Operator, ports, port_at}
-use Rattle.stream_model.specs.PortEvents.{by_ports, is_over, is_waiting, port_ended, port_events}
+use Rattle.stream_model.specs.Operators.{Operator, ports}
+use Rattle.stream_model.specs.parts.Operators.{port_at}
+use Rattle.stream_model.specs.PortEvents.{by_ports, is_over, is_waiting, port_events}
+use Rattle.stream_model.specs.parts.PortEvents.{port_ended}
 use Rattle.stream_model.specs.React.{react, ended}
 
 -- each port takes a stream

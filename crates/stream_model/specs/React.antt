@@ -1,5 +1,5 @@
 -- What one event of an operator causes, by the history of the events before it. A history has its newest event first.
-use Rattle.std.specs.Prelude.{ℕ, Bool, List, [], ◌++◌, length, if◌then◌else◌, Option, Some, None}
+use Rattle.std.specs.Prelude.{ℕ, Bool, List, [], ◌++◌, length, slice_index, if◌then◌else◌, Option, Some, None}
 use Rattle.spl_value.specs.declared.item.FaultKind.{FaultKind}
 use Rattle.spl_value.specs.declared.item.FaultKind.TheVariants as K
 use Rattle.spl_value.specs.declared.item.Item.{Item}
@@ -9,9 +9,9 @@ use Rattle.language_model.specs.declared.checked.CheckedClauses.TheVariants as A
 use Rattle.language_model.specs.declared.outs.Output.{Output}
 use Rattle.language_model.specs.Outcomes.{Done, Faulted, Stuck}
 use Rattle.stream_model.specs.Stream.{Event, is_fault}
-use Rattle.stream_model.specs.Operators.{Operator, ports, port_at}
+use Rattle.stream_model.specs.Operators.{Operator, ports}
 use Rattle.stream_model.specs.PortEvents.{is_waiting, is_last, items_of, port_events}
-use Rattle.stream_model.specs.Bodies.{Makes, most_turns, on_each, filter_body, functor_body, punctor_body, split_body, union_body, sink_body}
+use Rattle.stream_model.specs.Bodies.{Makes, most_turns, on_first, on_each, by_item, filter_body, functor_body, punctor_body, split_body, union_body}
 use Rattle.stream_model.specs.Customs.{custom_body}
 use Rattle.stream_model.specs.Aggregates.{aggregate_body}
 use Rattle.stream_model.specs.Joins.{join_body}
@@ -19,10 +19,10 @@ use Rattle.stream_model.specs.Joins.{join_body}
 -- ---- bodies
 
 -- What the operator with these clauses makes of an item of a port, by what came on its ports before: of a tuple, of a window marker, or of
--- the end of the port by its final marker.
+-- the end of the port by its final marker. A FileSink gives its tuples to its writer, which stands as port 0.
 abbrev pub makes_by : CheckedClauses → Operator → List Event → ℕ → Item → Makes
 makes_by (A.FileSource file strict) op earlier port x = Done [] most_turns
-makes_by (A.FileSink file) op earlier port x = sink_body x
+makes_by (A.FileSink file) op earlier port x = by_item (λ vs. Done (on_first (I.Tuple vs)) most_turns) [] x
 makes_by (A.Filter condition) op earlier port x = filter_body op.functions condition x
 makes_by (A.Functor condition made) op earlier port x = functor_body op.functions condition made x
 makes_by (A.Punctor condition position) op earlier port x = punctor_body op.functions condition position x
@@ -45,13 +45,9 @@ answer (Done outs turns) = Gives outs
 answer (Faulted kind) = Faults kind
 answer Stuck = Faults K.BadRow
 
--- the answer at an item of a port, by what came on the ports before
-abbrev pub port_body : Operator → List Event → ℕ → Item → Reaction
-port_body op earlier port x = answer (makes_by op.clauses op earlier port x)
-
--- the answer at an event
+-- the answer at an event, as an item of its port, by what came on the ports before
 abbrev pub body : Operator → List Event → Event → Reaction
-body op earlier event = port_body op (port_events op earlier) (port_at (ports op) event.input) event.item
+body op earlier event = answer (makes_by op.clauses op (port_events op earlier) (slice_index (ports op) event.input) event.item)
 
 -- ---- events
 

@@ -9,7 +9,8 @@ use Rattle.stream_model.specs.Stages.{start}
 use Rattle.stream_model.specs.Meaning.{Lists, arrive}
 use Rattle.stream_model.specs.Ends.{end_from}
 use Rattle.stream_model.specs.Laws.{has_ended}
-use Rattle.stream_model.specs.Records.{names_inputs, finds_items, is_whole, all_items, input_after_input}
+use Rattle.stream_model.specs.Records.{is_whole, all_items, input_after_input}
+use Rattle.stream_model.specs.parts.Records.{names_inputs, finds_items}
 
 -- the events that a record takes come on the inputs that its entries name, in their order, up to an entry whose list is used up
 abbrev pub EntriesLaw : Type 0

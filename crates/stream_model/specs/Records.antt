@@ -10,22 +10,16 @@ use Rattle.stream_model.specs.Operators.{Operator, ports}
 use Rattle.stream_model.specs.Stages.{Stage, start, next}
 use Rattle.stream_model.specs.Meaning.{Lists, arrive}
 
--- each entry names an input of the operator
-abbrev pub names_inputs : Operator → List ℕ → Bool
-names_inputs op entries = list_all (λ i. nat_lt i (length (ports op))) entries
-
--- each entry finds an item in the list that it names
-abbrev pub finds_items : Lists → List ℕ → Bool
-finds_items lists entries = length (arrive lists entries) == length entries
-
 -- an operator that hasn't ended ends at the last of these events, and not before
 abbrev pub ends_at_last : Stage → List Event → Bool
 ends_at_last s [] = false
 ends_at_last s (e ∷ events) = if (next s e).over then is_empty events else ends_at_last (next s e) events
 
--- the record of an operator is whole for the lists of its inputs
+-- the record of an operator is whole for the lists of its inputs: each entry names an input and finds an item in its list, and the operator ends
+-- at the last one
 abbrev pub is_whole : Operator → Lists → List ℕ → Bool
-is_whole op lists entries = names_inputs op entries && finds_items lists entries && ends_at_last (start op) (arrive lists entries)
+is_whole op lists entries = list_all (λ i. nat_lt i (length (ports op))) entries && (length (arrive lists entries) == length entries)
+    && ends_at_last (start op) (arrive lists entries)
 
 -- of these events those up to the first that ends an operator, which hasn't ended before
 abbrev pub up_to_end : Stage → List Event → List Event

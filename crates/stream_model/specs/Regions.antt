@@ -2,8 +2,8 @@
 -- `Causes`, `IsCopy`), and which regions a graph has by the clauses of its operators (`is_safe`, `IsPlan`).
 --
 -- A history has its newest event first. The operators here have one connection and one output port.
-use Rattle.std.specs.Prelude.{◌≡◌, ◌≤◌, ◌⊎◌, ⊤, ℕ, zero, suc, ◌==◌, ◌&&◌, ◌||◌, not, Bool, true, false, List, [], ◌∷◌, ◌++◌, map, filter, length, slice_get, Option, None, Some, if◌then◌else◌}
-use Rattle.std.specs.List.{AllByRecursion, concat, list_all, list_any}
+use Rattle.std.specs.Prelude.{◌≡◌, ◌≤◌, ◌⊎◌, ⊤, ℕ, zero, suc, ◌==◌, ◌&&◌, ◌||◌, not, Bool, true, false, List, [], ◌∷◌, ◌++◌, map, filter, length, take, slice_get, Option, Some, if◌then◌else◌}
+use Rattle.std.specs.List.{AllByRecursion, concat, flat_map, list_all, list_any}
 use Rattle.std.specs.Option.{option_and_then, option_map_or}
 use Rattle.spl_value.specs.Key.{key_of}
 use Rattle.spl_value.specs.declared.item.Item.{Item}
@@ -24,7 +24,7 @@ use Rattle.stream_model.specs.React.{react}
 use Rattle.stream_model.specs.Replies.{is_live}
 use Rattle.stream_model.specs.StateKinds.{state_of, is_keyed, is_whole}
 use Rattle.stream_model.specs.Copies.{source_of}
-use Rattle.stream_model.specs.Selectivity.{gives}
+use Rattle.stream_model.specs.Selectivity.{gives, is_single}
 use Rattle.stream_model.specs.Meaning.{Graph}
 
 -- ---- what an operator's meaning depends on
@@ -73,25 +73,14 @@ pub record IsCopy (op : Operator) (a b : ℕ) : Type 0 where
 
 -- ---- chains of a graph
 
-abbrev pub is_one : {A : Type 0} → List A → Bool
-is_one [] = false
-is_one (x ∷ []) = true
-is_one (x ∷ y ∷ xs) = false
-
 -- an operator may stand in a region: it has one connection and one output port, and its state, where it has one, is kept by keys
 abbrev pub is_eligible : Operator → Bool
-is_eligible op = is_one (connections op) && (is_one op.outs && not (is_whole (state_of op.clauses)))
-
--- how many connections take a stream
-abbrev pub readings : Graph → ℕ → ℕ
-readings g s = length (filter (λ t. t == s) (concat (map connections g.ops)))
-
-abbrev pub reads : Operator → ℕ → Bool
-reads op s = list_any (λ t. t == s) (connections op)
+is_eligible op = is_single (connections op) && (is_single op.outs && not (is_whole (state_of op.clauses)))
 
 -- an operator reads the stream of the one before, which no other connection takes
 abbrev pub follows : Graph → Operator → Operator → Bool
-follows g op next = list_all (λ s. reads next s && (readings g s == 1)) op.outs
+follows g op next =
+    list_all (λ s. list_any (λ t. t == s) (connections next) && (length (filter (λ t. t == s) (concat (map connections g.ops))) == 1)) op.outs
 
 abbrev pub is_chain : Graph → List Operator → Bool
 is_chain g [] = true
@@ -100,15 +89,11 @@ is_chain g (op ∷ next ∷ ops) = is_eligible op && (follows g op next && is_ch
 
 -- ---- the key of a chain
 
-abbrev pub is_it : Option ℕ → ℕ → Bool
-is_it None a = false
-is_it (Some b) a = b == a
-
 -- one of an operator's keys is a copy of the attribute a of the stream that the chain reads, where `source` leads from the attributes of the
 -- operator's input to those of that stream. An operator that isn't Keyed asks for none
 abbrev pub has_copy : (ℕ → Option ℕ) → StateKind → ℕ → Bool
 has_copy source K.Stateless a = true
-has_copy source (K.Keyed places) a = list_any (λ p. is_it (source p) a) places
+has_copy source (K.Keyed places) a = list_any (λ p. option_map_or (λ b. b == a) (source p) false) places
 has_copy source K.Whole a = true
 
 abbrev pub all_have : (ℕ → Option ℕ) → List Operator → ℕ → Bool
@@ -141,12 +126,9 @@ is_one_class G.One = true
 is_one_class G.AtMostOne = false
 is_one_class G.Many = false
 
-abbrev pub is_one_each : Operator → Bool
-is_one_each op = is_one_class (gives op.clauses)
-
 -- by turns where each event causes one item and no operator is Keyed, by numbers where one is, and else by pulses
 abbrev pub chain_merge : List Operator → Merge
-chain_merge ops = if list_all is_one_each ops then (if any_keyed ops then M.Numbers else M.Turns) else M.Pulses
+chain_merge ops = if list_all (λ (op : Operator). is_one_class (gives op.clauses)) ops then (if any_keyed ops then M.Numbers else M.Turns) else M.Pulses
 
 -- ---- plans
 
@@ -174,20 +156,10 @@ pub record IsRegion (g : Graph) (region : Region) : Type 0 where
   pub key : region.key ≡ chain_key (ops_of g region.ops)
   pub merge : region.merge ≡ chain_merge (ops_of g region.ops)
 
-abbrev pub eligible_numbers : Graph → List ℕ
-eligible_numbers g = filter (λ n. option_map_or is_eligible (slice_get g.ops n) false) g.topo
-
-abbrev pub first_number : List ℕ → List ℕ
-first_number [] = []
-first_number (n ∷ ns) = n ∷ []
-
-abbrev pub firsts : List Region → List ℕ
-firsts [] = []
-firsts (region ∷ regions) = first_number region.ops ++ firsts regions
-
 -- the plan of a graph: each eligible operator stands in exactly one region, no other operator stands in one, and regions stand in
--- topological order
+-- topological order of their first operators
 pub record IsPlan (g : Graph) (plan : List Region) : Type 0 where
   pub regions : AllByRecursion (IsRegion g) plan
-  pub once : (n : ℕ) → how_often n (concat (map (λ (r : Region). r.ops) plan)) ≡ how_often n (eligible_numbers g)
-  pub in_order : IsPartOf (firsts plan) g.topo
+  pub once : (n : ℕ) → how_often n (concat (map (λ (r : Region). r.ops) plan))
+      ≡ how_often n (filter (λ m. option_map_or is_eligible (slice_get g.ops m) false) g.topo)
+  pub in_order : IsPartOf (flat_map (λ (r : Region). take 1 r.ops) plan) g.topo

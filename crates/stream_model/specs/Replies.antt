@@ -15,7 +15,8 @@ use Rattle.stream_model.specs.declared.reply.Reply.{Reply}
 use Rattle.stream_model.specs.declared.reply.Reply.TheVariants as R
 use Rattle.stream_model.specs.Stream.{Event, any_closes}
 use Rattle.stream_model.specs.Inputs.{came_on}
-use Rattle.stream_model.specs.Operators.{Operator, ports, port_at, input_attributes, output_attributes}
+use Rattle.stream_model.specs.Operators.{Operator, ports, input_attributes, output_attributes}
+use Rattle.stream_model.specs.parts.Operators.{port_at}
 use Rattle.stream_model.specs.React.{react, ended}
 
 -- the operator hasn't ended

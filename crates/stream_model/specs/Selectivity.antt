@@ -2,6 +2,7 @@
 -- by statement, and the class of an operator. A `return` makes the least number of its body 0, and what comes after it still counts for the
 -- greatest.
 use Rattle.std.specs.Prelude.{ℕ, zero, suc, ◌+◌, ◌==◌, nat_le, ◌&&◌, ◌||◌, Bool, true, false, if◌then◌else◌, List, [], ◌∷◌, map, Option, None, Some, option_map, min, max}
+use Rattle.std.specs.Option.{option_and_then, option_map_or}
 use Rattle.spl_tree.specs.declared.body.Statement.{Statement}
 use Rattle.spl_tree.specs.declared.body.Statement.TheOpen as S
 use Rattle.spl_tree.specs.declared.body.Statement.TheOpen.{Statement-F}
@@ -33,23 +34,13 @@ pub record Interval : Type 0 where
 abbrev pub exactly : ℕ → Interval
 exactly n = record { least = n; most = Some n; returns = false }
 
-abbrev pub sum_of : Option ℕ → Option ℕ → Option ℕ
-sum_of (Some m) (Some n) = Some (m + n)
-sum_of (Some m) None = None
-sum_of None n = None
-
-abbrev pub larger_of : Option ℕ → Option ℕ → Option ℕ
-larger_of (Some m) (Some n) = Some (max m n)
-larger_of (Some m) None = None
-larger_of None n = None
-
 -- one and then the other
 abbrev pub both : Interval → Interval → Interval
-both i j = record { least = i.least + j.least; most = sum_of i.most j.most; returns = i.returns || j.returns }
+both i j = record { least = i.least + j.least; most = option_and_then (λ m. option_map (λ n. m + n) j.most) i.most; returns = i.returns || j.returns }
 
 -- one or the other
 abbrev pub either : Interval → Interval → Interval
-either i j = record { least = min i.least j.least; most = larger_of i.most j.most; returns = i.returns || j.returns }
+either i j = record { least = min i.least j.least; most = option_and_then (λ m. option_map (λ n. max m n) j.most) i.most; returns = i.returns || j.returns }
 
 abbrev pub in_turn : List Interval → Interval
 in_turn [] = exactly 0
@@ -71,18 +62,14 @@ abbrev pub level_decided : {A : Type 0} → Option Marker → Code-F Slot A → 
 level_decided marker (C.IsMarker M.Window) = option_map (same_marker M.Window) marker
 level_decided marker _ = None
 
-abbrev pub decided : Option Marker → Code Slot → Option Bool
-decided marker code = level_decided marker (out-Code Slot code)
-
+-- the one or the other where the marker decides that, and else either
 abbrev pub chosen : Option Bool → Interval → Interval → Interval
-chosen None i j = either i j
-chosen (Some true) i j = i
-chosen (Some false) i j = j
+chosen decision i j = option_map_or (λ b. if b then i else j) decision (either i j)
 
 -- the statements after the first condition that is true, or else the others
 abbrev pub of_arms : Option Marker → List (Code Slot × List Interval) → List Interval → Interval
 of_arms marker [] other = in_turn other
-of_arms marker (arm ∷ arms) other = chosen (decided marker arm.0) (in_turn arm.1) (of_arms marker arms other)
+of_arms marker (arm ∷ arms) other = chosen (level_decided marker (out-Code Slot arm.0)) (in_turn arm.1) (of_arms marker arms other)
 
 abbrev pub level_interval : Option Marker → Statement-F Interval → Interval
 level_interval marker (S.Block row) = in_turn row
@@ -107,33 +94,18 @@ row_interval marker row = in_turn (map (fold-Statement Interval (level_interval 
 abbrev pub least_number : Option Marker → List Statement → ℕ
 least_number marker row = if (row_interval marker row).returns then 0 else (row_interval marker row).least
 
-abbrev pub greatest_number : Option Marker → List Statement → Option ℕ
-greatest_number marker row = (row_interval marker row).most
-
 -- ---- a Custom
 
--- the least and the greatest number of a body, where there is one; without one it submits nothing
-abbrev pub least_of : Option Marker → Option (List Statement) → ℕ
-least_of marker None = 0
-least_of marker (Some row) = least_number marker row
-
+-- the greatest number of a body, where there is one; without a body nothing is submitted
 abbrev pub greatest_of : Option Marker → Option (List Statement) → Option ℕ
-greatest_of marker None = Some 0
-greatest_of marker (Some row) = greatest_number marker row
+greatest_of marker body = option_map_or (λ row. (row_interval marker row).most) body (Some 0)
 
-abbrev pub is_number : ℕ → Option ℕ → Bool
-is_number n None = false
-is_number n (Some m) = m == n
-
-abbrev pub is_at_most : ℕ → Option ℕ → Bool
-is_at_most n None = false
-is_at_most n (Some m) = nat_le m n
-
+-- the least and the greatest number are n
 abbrev pub has_exactly : ℕ → Option Marker → Option (List Statement) → Bool
-has_exactly n marker body = (least_of marker body == n) && is_number n (greatest_of marker body)
+has_exactly n marker body = (option_map_or (least_number marker) body 0 == n) && option_map_or (λ m. m == n) (greatest_of marker body) false
 
 abbrev pub has_at_most : ℕ → Option Marker → Option (List Statement) → Bool
-has_at_most n marker body = is_at_most n (greatest_of marker body)
+has_at_most n marker body = option_map_or (λ m. nat_le m n) (greatest_of marker body) false
 
 -- by the bodies of a port: a tuple, a window marker and the end
 abbrev pub custom_gives : Option (List Statement) → Option (List Statement) → Gives
@@ -150,8 +122,7 @@ is_single (x ∷ []) = true
 is_single (x ∷ y ∷ xs) = false
 
 abbrev pub one_unless : {A : Type 0} → Option A → Gives
-one_unless None = G.One
-one_unless (Some condition) = G.AtMostOne
+one_unless condition = option_map_or (λ _. G.AtMostOne) condition G.One
 
 -- a window without groups that slides gives at each trigger, and where that is each tuple, at each
 abbrev pub window_gives : WindowRule → List ℕ → Gives

@@ -15,15 +15,13 @@ pub record Stage : Type 0 where
 abbrev pub start : Operator → Stage
 start op = record { op = op; seen = []; over = false }
 
-abbrev pub gives : Stage → Event → List Output
-gives s e = if s.over then [] else react s.op s.seen e
-
 abbrev pub next : Stage → Event → Stage
 next s e = if s.over then s else record { op = s.op; seen = e ∷ s.seen; over = is_some (ended s.op s.seen e) }
 
+-- what it gives while it hasn't ended
 abbrev pub gives_all : Stage → List Event → List Output
 gives_all s [] = []
-gives_all s (e ∷ es) = gives s e ++ gives_all (next s e) es
+gives_all s (e ∷ es) = (if s.over then [] else react s.op s.seen e) ++ gives_all (next s e) es
 
 abbrev pub stage_after : Stage → List Event → Stage
 stage_after s [] = s

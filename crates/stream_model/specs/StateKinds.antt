@@ -1,17 +1,12 @@
 -- What kind of state an operator keeps from event to event, by its clauses alone.
 use Rattle.std.specs.Prelude.{Bool, true, false, not, ◌&&◌, if◌then◌else◌}
 use Rattle.std.specs.List.{list_any}
-use Rattle.language_model.specs.declared.checked.Handlers.{Handlers}
 use Rattle.language_model.specs.declared.checked.CheckedClauses.{CheckedClauses}
 use Rattle.language_model.specs.declared.checked.CheckedClauses.TheVariants as A
 use Rattle.language_model.specs.declared.checked.StateVariable.{StateVariable}
 use Rattle.stream_model.specs.declared.plan.StateKind.{StateKind}
 use Rattle.stream_model.specs.declared.plan.StateKind.TheVariants as K
 use Rattle.stream_model.specs.Windows.{flushes_at_markers}
-
--- a variable of the state may change
-abbrev pub has_mutable : Handlers → Bool
-has_mutable handlers = list_any (λ (x : StateVariable). x.variable.mutable) handlers.state
 
 -- a Custom without mutable variables keeps nothing, and an Aggregate keeps its partitions, where markers don't concern all of them
 abbrev pub state_of : CheckedClauses → StateKind
@@ -23,7 +18,7 @@ state_of (A.Functor condition made) = K.Stateless
 state_of (A.Punctor condition position) = K.Stateless
 state_of (A.Split index) = K.Stateless
 state_of (A.Union places) = K.Stateless
-state_of (A.Custom handlers) = if has_mutable handlers then K.Whole else K.Stateless
+state_of (A.Custom handlers) = if list_any (λ (x : StateVariable). x.variable.mutable) handlers.state then K.Whole else K.Stateless
 state_of (A.Aggregate window partition group collects) =
     if window.partitioned && not (flushes_at_markers window.rule) then K.Keyed partition else K.Whole
 

@@ -11,7 +11,8 @@ use Rattle.language_model.specs.declared.checked.WindowRule.{WindowRule}
 use Rattle.language_model.specs.declared.checked.WindowRule.TheVariants as W
 use Rattle.spl_value.specs.KeyOrder.{key_cmp, same_key}
 use Rattle.stream_model.specs.Stream.{is_empty}
-use Rattle.stream_model.specs.Windows.{flushes_at_markers, WindowEvent, Insert, Mark, partition_key, window_events, tuples_with, has_come, in_order, is_start, last_start, integer_at, exceeds, content, Firing, Silent, Flushes, Triggers, flush_if, trigger_if, tuple_fires, flushed_behind, contents_of, fired_contents, fired_at}
+use Rattle.stream_model.specs.Windows.{flushes_at_markers, WindowEvent, Insert, Mark, partition_key, window_events, tuples_with, has_come, in_order, is_start, last_start, integer_at, exceeds, content, Firing, Silent, Flushes, Triggers, trigger_if, flushed_after, contents_of, fired_contents, fired_at}
+use Rattle.stream_model.specs.parts.Windows.{flush_if, tuple_fires}
 
 -- the second list is the first with some more before it
 abbrev pub IsSuffix : {A : Type 0} → List A → List A → Type 0
@@ -148,17 +149,17 @@ SameKeyLaw = (k q : List Value) → (same_key k q ≡ true → k ≡ q) × (k �
 
 -- where markers flush, contents are empty after one, and the next one at once flushes nothing
 abbrev pub EmptiedLaw : Type 0
-EmptiedLaw = (k : List Value) (h : List WindowEvent) → (content W.TumblingPunct k (Mark ∷ h) ≡ []) × (flushed_behind W.TumblingPunct (Mark ∷ h) ≡ [])
+EmptiedLaw = (k : List Value) (h : List WindowEvent) → (content W.TumblingPunct k (Mark ∷ h) ≡ []) × (flushed_after W.TumblingPunct (Mark ∷ h) ≡ [])
 
 -- where markers don't flush, one changes nothing and flushes nothing
 abbrev pub PassingLaw : Type 0
 PassingLaw = (rule : WindowRule) (k : List Value) (h : List WindowEvent) → flushes_at_markers rule ≡ false →
-    (content rule k (Mark ∷ h) ≡ content rule k h) × (flushed_behind rule h ≡ [])
+    (content rule k (Mark ∷ h) ≡ content rule k h) × (flushed_after rule h ≡ [])
 
 -- what a marker flushes after a history has its keys ascending, each once: those whose content isn't empty, with that content
 abbrev pub FlushedBehindLaw : Type 0
-FlushedBehindLaw = (h : List WindowEvent) → IsTrue (is_sorted key_cmp (flushed_behind W.TumblingPunct h))
-    × ((k : List Value) → find key_cmp k (flushed_behind W.TumblingPunct h)
+FlushedBehindLaw = (h : List WindowEvent) → IsTrue (is_sorted key_cmp (flushed_after W.TumblingPunct h))
+    × ((k : List Value) → find key_cmp k (flushed_after W.TumblingPunct h)
     ≡ (if is_empty (content W.TumblingPunct k h) then None else Some (content W.TumblingPunct k h)))
 
 -- ---- items
@@ -168,7 +169,7 @@ FlushedBehindLaw = (h : List WindowEvent) → IsTrue (is_sorted key_cmp (flushed
 abbrev pub FiredLaw : Type 0
 FiredLaw = (rule : WindowRule) (key : List Value → List Value) (earlier : List Item) →
     ((t : List Value) → fired_at rule key (I.Tuple t) earlier ≡ contents_of (tuple_fires rule (key t) t (window_events key earlier)))
-    × (fired_at rule key I.Window earlier ≡ map (λ e. e.1) (flushed_behind rule (window_events key earlier)))
+    × (fired_at rule key I.Window earlier ≡ map (λ e. e.1) (flushed_after rule (window_events key earlier)))
     × (fired_at rule key I.Final earlier ≡ [])
     × ((f : Fault) → fired_at rule key (I.Bad f) earlier ≡ [])
 
@@ -204,7 +205,7 @@ map_firing f (Triggers ts) = Triggers (map f ts)
 abbrev pub MappedLaw : Type 0
 MappedLaw = (rule : WindowRule) (f : List Value → List Value) (k : List Value) (h : List WindowEvent) → AllKeep rule f h →
     (content rule k (mapped f h) ≡ map f (content rule k h))
-    × (flushed_behind rule (mapped f h) ≡ map (λ e. (e.0, map f e.1)) (flushed_behind rule h))
+    × (flushed_after rule (mapped f h) ≡ map (λ e. (e.0, map f e.1)) (flushed_after rule h))
 
 -- and so is what a mapped tuple or a marker fires after them
 abbrev pub MappedFiringLaw : Type 0

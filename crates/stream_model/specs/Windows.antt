@@ -12,6 +12,7 @@
 use Prim.Native.Nat.{suc}
 use Rattle.std.specs.Prelude.{ℕ, ℤ, pos, ◌-ℤ◌, ◌%◌, ◌==◌, Bool, true, false, not, ◌&&◌, List, [], ◌∷◌, ◌++◌, map, length, take, slice_get, int_lt, Option, Some, None, if◌then◌else◌}
 use Rattle.std.specs.List.{list_any}
+use Rattle.std.specs.Option.{option_map_or}
 use Rattle.spl_value.specs.declared.item.Item.{Item}
 use Rattle.spl_value.specs.declared.item.Item.TheVariants as I
 use Rattle.spl_value.specs.declared.value.Value.{Value}
@@ -84,14 +85,9 @@ abbrev pub in_order : {A : Type 0} → List A → List A
 in_order [] = []
 in_order (t ∷ ts) = in_order ts ++ t ∷ []
 
--- the last n, or all, in order
-abbrev pub last_of : {A : Type 0} → ℕ → List A → List A
-last_of n ts = in_order (take n ts)
-
 -- a tuple is a start where it is the first, or where it is far from the last start before it
 abbrev pub is_start : {A : Type 0} → (A → A → Bool) → A → Option A → Bool
-is_start far t None = true
-is_start far t (Some s) = far t s
+is_start far t start = option_map_or (far t) start true
 
 abbrev pub last_start : {A : Type 0} → (A → A → Bool) → List A → Option A
 last_start far [] = None
@@ -113,13 +109,9 @@ abbrev pub integer_of : Value-F Value → ℤ
 integer_of (O.Int n) = n
 integer_of v = pos 0
 
-abbrev pub integer_in : Option Value → ℤ
-integer_in None = pos 0
-integer_in (Some v) = integer_of (out-Value v)
-
 -- the integer of an attribute
 abbrev pub integer_at : ℕ → List Value → ℤ
-integer_at a t = integer_in (slice_get t a)
+integer_at a t = option_map_or (λ v. integer_of (out-Value v)) (slice_get t a) (pos 0)
 
 -- one tuple exceeds another in an attribute by more than the limit; the difference doesn't wrap
 abbrev pub exceeds : ℕ → ℤ → List Value → List Value → Bool
@@ -130,22 +122,15 @@ exceeds a limit new old = int_lt limit (integer_at a new -ℤ integer_at a old)
 -- What the window of a key holds of its t tuples: the last `t mod n`, those from the last start on, all, the last n, or each that
 -- no later one exceeds by more than the limit. The tuples are given the newest first, and what is held of them has the oldest first.
 abbrev pub held : WindowRule → List (List Value) → List (List Value)
-held (W.TumblingCount n) ts = last_of (length ts % n) ts
+held (W.TumblingCount n) ts = in_order (take (length ts % n) ts)
 held (W.TumblingDelta a limit) ts = since_start (exceeds a limit) ts
 held W.TumblingPunct ts = in_order ts
-held (W.SlidingCount n every) ts = last_of n ts
+held (W.SlidingCount n every) ts = in_order (take n ts)
 held (W.SlidingDelta a limit every) ts = near (exceeds a limit) (in_order ts)
 
 -- where window markers flush, what came after the last one counts, and else everything
-abbrev pub relevant : WindowRule → List WindowEvent → List WindowEvent
-relevant W.TumblingPunct h = since_mark h
-relevant (W.TumblingCount n) h = h
-relevant (W.TumblingDelta a limit) h = h
-relevant (W.SlidingCount n every) h = h
-relevant (W.SlidingDelta a limit every) h = h
-
 abbrev pub content : WindowRule → List Value → List WindowEvent → List (List Value)
-content rule k h = held rule (tuples_with k (relevant rule h))
+content rule k h = held rule (tuples_with k (if flushes_at_markers rule then since_mark h else h))
 
 -- ---- firing
 
@@ -155,36 +140,24 @@ pub data Firing : Type 0 where
   Flushes : (tuples : List (List Value)) → Firing
   Triggers : (tuples : List (List Value)) → Firing
 
-abbrev pub flush_if : Bool → List (List Value) → Firing
-flush_if b ts = if b then Flushes ts else Silent
-
 -- a trigger fires after each `every` tuples of a key; a window without one never fires
 abbrev pub trigger_if : Option ℕ → ℕ → List (List Value) → Firing
-trigger_if None n ts = Silent
-trigger_if (Some every) n ts = if (n % every) == 0 then Triggers ts else Silent
+trigger_if trigger n ts = option_map_or (λ every. if (n % every) == 0 then Triggers ts else Silent) trigger Silent
 
 -- what a tuple of a key fires after the earlier ones, the newest first: one that makes their number a multiple of n flushes the
 -- last n, a start that isn't the first tuple flushes what was held before it, and a trigger fires with what is held then
-abbrev pub fires_behind : WindowRule → List Value → List (List Value) → Firing
-fires_behind (W.TumblingCount n) t ts = flush_if ((suc (length ts) % n) == 0) (last_of n (t ∷ ts))
-fires_behind (W.TumblingDelta a limit) t ts =
-    flush_if (is_start (exceeds a limit) t (last_start (exceeds a limit) ts) && not (is_empty ts)) (held (W.TumblingDelta a limit) ts)
-fires_behind W.TumblingPunct t ts = Silent
-fires_behind (W.SlidingCount n every) t ts = trigger_if every (suc (length ts)) (held (W.SlidingCount n every) (t ∷ ts))
-fires_behind (W.SlidingDelta a limit every) t ts = trigger_if every (suc (length ts)) (held (W.SlidingDelta a limit every) (t ∷ ts))
-
--- what a tuple fires that is inserted under a key after a history
-abbrev pub tuple_fires : WindowRule → List Value → List Value → List WindowEvent → Firing
-tuple_fires rule k t h = fires_behind rule t (tuples_with k h)
+abbrev pub fires_after : WindowRule → List Value → List (List Value) → Firing
+fires_after (W.TumblingCount n) t ts = if (suc (length ts) % n) == 0 then Flushes (in_order (take n (t ∷ ts))) else Silent
+fires_after (W.TumblingDelta a limit) t ts =
+    if is_start (exceeds a limit) t (last_start (exceeds a limit) ts) && not (is_empty ts) then Flushes (held (W.TumblingDelta a limit) ts) else Silent
+fires_after W.TumblingPunct t ts = Silent
+fires_after (W.SlidingCount n every) t ts = trigger_if every (suc (length ts)) (held (W.SlidingCount n every) (t ∷ ts))
+fires_after (W.SlidingDelta a limit every) t ts = trigger_if every (suc (length ts)) (held (W.SlidingDelta a limit every) (t ∷ ts))
 
 -- what a window marker flushes after a history, where markers flush: the content of each key of a tuple that came after the
 -- last marker before it, by ascending key
-abbrev pub flushed_behind : WindowRule → List WindowEvent → List (List Value × List (List Value))
-flushed_behind W.TumblingPunct h = each_key (λ k. content W.TumblingPunct k h) (keys_of (since_mark h))
-flushed_behind (W.TumblingCount n) h = []
-flushed_behind (W.TumblingDelta a limit) h = []
-flushed_behind (W.SlidingCount n every) h = []
-flushed_behind (W.SlidingDelta a limit every) h = []
+abbrev pub flushed_after : WindowRule → List WindowEvent → List (List Value × List (List Value))
+flushed_after rule h = if flushes_at_markers rule then each_key (λ k. content rule k h) (keys_of (since_mark h)) else []
 
 -- the content that is fired, where one is
 abbrev pub contents_of : Firing → List (List (List Value))
@@ -194,8 +167,8 @@ contents_of (Triggers ts) = ts ∷ []
 
 -- the contents with which an event fires after a history, those that a marker flushes by ascending key
 abbrev pub fired_contents : WindowRule → WindowEvent → List WindowEvent → List (List (List Value))
-fired_contents rule Mark h = map (λ e. e.1) (flushed_behind rule h)
-fired_contents rule (Insert k t) h = contents_of (tuple_fires rule k t h)
+fired_contents rule Mark h = map (λ e. e.1) (flushed_after rule h)
+fired_contents rule (Insert k t) h = contents_of (fires_after rule t (tuples_with k h))
 
 -- the contents with which an item of the port fires after the earlier ones, the newest first. A final marker and a fault fire none
 abbrev pub fired_at : WindowRule → (List Value → List Value) → Item → List Item → List (List (List Value))

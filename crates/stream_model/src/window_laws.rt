@@ -3,7 +3,8 @@ ghost use Rattle.std.specs.Prelude.{◌≡◌, ◌==◌, ◌++◌, [], ◌∷◌
 ghost use Rattle.spl_value.specs.declared.item.Item.TheVariants as I;
 ghost use Rattle.language_model.specs.declared.checked.WindowRule.TheVariants as W;
 ghost use Rattle.stream_model.specs.Stream.{came};
-ghost use Rattle.stream_model.specs.Windows.{partition_key, window_events, content, tuple_fires, flushed_behind, Insert, Mark, Silent, Flushes, Triggers, fired_at, integer_at};
+ghost use Rattle.stream_model.specs.Windows.{partition_key, window_events, content, flushed_after, Insert, Mark, Silent, Flushes, Triggers, fired_at, integer_at};
+ghost use Rattle.stream_model.specs.parts.Windows.{tuple_fires};
 ghost use Rattle.stream_model.specs.PortEvents.{items_of, port_events};
 ghost use Rattle.stream_model.specs.WindowLaws.{TumblingCountLaw, SlidingCountLaw, TumblingDeltaLaw, SlidingDeltaLaw, TumblingCountInsert, TumblingDeltaInsert, TumblingPunctInsert, SlidingCountInsert, SlidingDeltaInsert, PortLaw, OneKeyLaw, OwnKeyLaw, SameKeyLaw, EmptiedLaw, PassingLaw, FlushedBehindLaw, FiredLaw, MappedLaw, MappedFiringLaw, BehindLaw};
 ghost use Rattle.stream_model.specs.examples.WindowExamples.{number, a_with, b_with, key_a, key_b, by_text, of_all, two_ports};
@@ -41,7 +42,7 @@ pub fn window_keys_law()
 /// leaves them empty. Where markers don't flush, they change nothing. Tuples and markers fire, and final
 /// markers and faults don't.
 pub fn window_markers_law()
-    ensures flushed_behind { FlushedBehindLaw }
+    ensures flushed_after { FlushedBehindLaw }
     ensures emptied { EmptiedLaw }
     ensures passing { PassingLaw }
     ensures fired { FiredLaw }
@@ -86,12 +87,12 @@ pub fn windows_on_literals()
         ≡ Triggers (number (pos 10) ∷ number (pos 7) ∷ []) }
     ensures late { content (W.SlidingDelta 0 (pos 5) (Some 1)) [] (of_all (number (pos 6) ∷ number (pos 0) ∷ []))
         ≡ number (pos 6) ∷ number (pos 0) ∷ [] }
-    ensures by_marker { flushed_behind W.TumblingPunct (by_text (b_with (pos 1) ∷ a_with (pos 2) ∷ b_with (pos 0) ∷ []))
+    ensures by_marker { flushed_after W.TumblingPunct (by_text (b_with (pos 1) ∷ a_with (pos 2) ∷ b_with (pos 0) ∷ []))
         ≡ (key_a, a_with (pos 2) ∷ []) ∷ (key_b, b_with (pos 1) ∷ b_with (pos 0) ∷ []) ∷ [] }
-    ensures by_next_marker { flushed_behind W.TumblingPunct (Insert key_a (a_with (pos 5)) ∷ Mark ∷ by_text (b_with (pos 1) ∷ a_with (pos 2) ∷ []))
+    ensures by_next_marker { flushed_after W.TumblingPunct (Insert key_a (a_with (pos 5)) ∷ Mark ∷ by_text (b_with (pos 1) ∷ a_with (pos 2) ∷ []))
         ≡ (key_a, a_with (pos 5) ∷ []) ∷ [] }
-    ensures nothing_flushed { flushed_behind W.TumblingPunct (Mark ∷ by_text (a_with (pos 1) ∷ [])) ≡ [] }
-    ensures two_places { flushed_behind W.TumblingPunct (window_events (partition_key (record { partitioned = true; rule = W.TumblingPunct }) (1 ∷ 0 ∷ []))
+    ensures nothing_flushed { flushed_after W.TumblingPunct (Mark ∷ by_text (a_with (pos 1) ∷ [])) ≡ [] }
+    ensures two_places { flushed_after W.TumblingPunct (window_events (partition_key (record { partitioned = true; rule = W.TumblingPunct }) (1 ∷ 0 ∷ []))
         (I.Tuple (b_with (pos 1)) ∷ I.Tuple (a_with (pos 2)) ∷ I.Tuple (a_with (pos 1)) ∷ []))
         ≡ (number (pos 1) ++ key_a, a_with (pos 1) ∷ []) ∷ (number (pos 1) ++ key_b, b_with (pos 1) ∷ []) ∷ (number (pos 2) ++ key_a, a_with (pos 2) ∷ []) ∷ [] }
     ensures tuple_of_port { fired_at (W.TumblingCount 2) (partition_key (record { partitioned = true; rule = W.TumblingCount 2 }) (0 ∷ []))

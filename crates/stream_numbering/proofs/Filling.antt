@@ -8,7 +8,9 @@ use Rattle.std.proofs.lemmas.Option.{slice_get-map, slice_get_past}
 use Rattle.spl_tree.specs.declared.unit.Definition.{Definition}
 use Rattle.language_model.specs.declared.expansion.Source.{Source}
 use Rattle.language_model.specs.Expansion.{Inlined, Made, source}
-use Rattle.language_model.specs.Numbering.{site_at, graph_outputs, operator_at, operator_or_expansion, stream_of}
+use Rattle.language_model.specs.Numbering.{site_at, operator_or_expansion, stream_of}
+use Rattle.language_model.specs.parts.Numbering.{graph_outputs}
+use Rattle.language_model.proofs.parts.Numbering.{operator_at}
 use Rattle.composite_tables.specs.declared.made.Body.{Body}
 use Rattle.composite_tables.specs.Inputs.{Shows, AreNested}
 use Rattle.stream_numbering.specs.steps.SiteTable.{Parts, parts_of, stream_there, row_of, row_at, filled, table_of}

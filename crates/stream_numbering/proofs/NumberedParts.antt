@@ -12,7 +12,9 @@ use Rattle.language_model.specs.declared.expansion.Operation.{Operation}
 use Rattle.language_model.specs.declared.expansion.Source.{Source}
 use Rattle.language_model.specs.Expansion.{Inlined, Made, source, sources_of, input_sources}
 use Rattle.language_model.specs.Invoking.{stream_names}
-use Rattle.language_model.specs.Numbering.{Output, numbers_from, first_stream, outputs_from, graph_outputs, operator_at, operator_or_expansion, site_at, stream_of, streams_of, ops_from, streams_from, own_sources, first_or_none, input_streams, expansion_of, expansions_from}
+use Rattle.language_model.specs.Numbering.{Output, numbers_from, first_stream, outputs_from, operator_or_expansion, site_at, stream_of, streams_of, ops_from, streams_from, input_streams, expansions_from}
+use Rattle.language_model.specs.parts.Numbering.{graph_outputs}
+use Rattle.language_model.proofs.parts.Numbering.{operator_at, own_sources, first_or_none, expansion_of}
 use Rattle.composite_tables.specs.declared.made.Body.{Body}
 use Rattle.composite_tables.specs.declared.made.Input.{Input}
 use Rattle.stream_numbering.specs.declared.numbering.Numbered.{Numbered}

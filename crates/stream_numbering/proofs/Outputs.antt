@@ -7,7 +7,9 @@ use Rattle.std.proofs.lemmas.Option.{get_or_from_slice_get, slice_get_past}
 use Rattle.spl_tree.specs.declared.graph.Site.{Site}
 use Rattle.language_model.specs.declared.expansion.Source.{Source}
 use Rattle.language_model.specs.Expansion.{Inlined, Made, source}
-use Rattle.language_model.specs.Numbering.{is_site, site_at, graph_outputs, operator_at, expansion_at, output_place, operator_or_expansion, stream_of}
+use Rattle.language_model.specs.Numbering.{is_site, site_at, output_place, operator_or_expansion, stream_of}
+use Rattle.language_model.specs.parts.Numbering.{graph_outputs}
+use Rattle.language_model.proofs.parts.Numbering.{operator_at, expansion_at}
 use Rattle.composite_tables.specs.Inputs.{IsBefore, AreNested}
 use Rattle.graph_laws.proofs.Flattening.{same_site}
 

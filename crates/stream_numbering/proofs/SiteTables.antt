@@ -12,7 +12,8 @@ use Rattle.spl_tree.specs.declared.unit.Definition.{Definition}
 use Rattle.language_model.specs.declared.expansion.Operation.{Operation}
 use Rattle.language_model.specs.Composites.{composites}
 use Rattle.language_model.specs.Expansion.{Inlined, Made, source}
-use Rattle.language_model.specs.Numbering.{is_site, operator_at, expansion_at, output_place, operator_or_expansion, first_stream}
+use Rattle.language_model.specs.Numbering.{is_site, output_place, operator_or_expansion, first_stream}
+use Rattle.language_model.proofs.parts.Numbering.{operator_at, expansion_at}
 use Rattle.composite_tables.specs.declared.made.Body.{Body}
 use Rattle.composite_tables.specs.Inputs.{Shows}
 use Rattle.stream_numbering.specs.steps.SiteTable.{Parts, parts_of, first_at, body_at, composite_of, output_of, first_or_output, stream_there}

@@ -6,7 +6,9 @@ use Rattle.spl_tree.specs.declared.graph.Graph.{Graph}
 use Rattle.spl_tree.specs.declared.unit.Definition.{Definition}
 use Rattle.spl_tree.specs.declared.unit.InputPort.{InputPort}
 use Rattle.spl_value.specs.declared.types.SplType.TheVariants as S
-use Rattle.language_model.specs.StreamTypes.{Attributes, Body, Passes, are_alike, tail, each_name, input_heads, name_places, passed, port_attributes, same_attributes, so_often, stream_attributes}
+use Rattle.language_model.specs.StreamTypes.{Attributes, Body, Passes, are_alike, each_name, input_heads, name_places, passed, port_attributes, same_attributes, stream_attributes}
+use Rattle.language_model.proofs.parts.StreamTypes.{tail}
+use Rattle.language_model.specs.parts.StreamTypes.{so_often}
 use Rattle.language_model.specs.Typing.{Found, after, mismatch}
 use Rattle.language_model.proofs.TypingLaws.{same_types_law}
 use Rattle.language_model.specs.declared.answer.TypeAnswer.{TypeAnswer}

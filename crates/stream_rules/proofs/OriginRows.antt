@@ -8,7 +8,8 @@ use Rattle.spl_tree.specs.declared.graph.Graph.{Graph}
 use Rattle.spl_tree.specs.declared.graph.Stream.{Stream}
 use Rattle.spl_tree.specs.declared.unit.Definition.{Definition}
 use Rattle.language_model.specs.Leading.{leads_back}
-use Rattle.language_model.specs.StreamTypes.{named_stream, origin_attributes, attributes_within, output_of_op, stream_attributes, stream_leads}
+use Rattle.language_model.specs.StreamTypes.{named_stream, attributes_within, output_of_op, stream_attributes, stream_leads}
+use Rattle.language_model.proofs.parts.StreamTypes.{origin_attributes}
 use Rattle.language_model.specs.Typing.{mismatch}
 use Rattle.stream_rules.specs.Circles.{TellsBack, flag_at}
 use Rattle.stream_rules.specs.steps.Origins.{Steps, lead_at}

@@ -8,7 +8,9 @@ use Rattle.spl_tree.specs.declared.unit.Definition.{Definition}
 use Rattle.spl_tree.specs.declared.unit.OutputStream.{OutputStream}
 use Rattle.language_model.specs.Expansion.{place_of}
 use Rattle.language_model.specs.Invoking.{input_names, stream_names}
-use Rattle.language_model.specs.StreamTypes.{Attributes, Body, head_input, input_heads, invoked_input, outer_output, output_heads, own_or_head, passed, port_matches, shape_matches}
+use Rattle.language_model.specs.StreamTypes.{Attributes, Body, input_heads, output_heads, passed, shape_matches}
+use Rattle.language_model.proofs.parts.StreamTypes.{head_input, own_or_head}
+use Rattle.language_model.specs.parts.StreamTypes.{invoked_input, outer_output, port_matches}
 use Rattle.language_model.specs.Typing.{after}
 use Rattle.language_model.specs.declared.answer.TypeAnswer.{TypeAnswer}
 use Rattle.language_model.specs.declared.answer.TypeAnswer.TheVariants.{Refused, Memory}
@@ -16,7 +18,7 @@ use Rattle.language_model.specs.Finds.{Finds}
 use Rattle.body_sites.specs.Bodies.{body_seen}
 use Rattle.stream_rules.specs.steps.Outside.{StandsOutside}
 use Rattle.stream_rules.specs.declared.origins.Origin.{Origin}
-use Rattle.language_model.proofs.FoundAnswers.{finds_by, stops}
+use Rattle.language_model.proofs.FoundAnswers.{finds_by, goes, stops}
 
 pub none_of : {A : Type 0} (o : Option A) → is_some o ≡ false → o ≡ None
 none_of None e = refl
@@ -51,6 +53,21 @@ module _ (unit : List Definition) (g : Graph) (schema : Attributes) where
       → Finds (output_heads count unit g schema b name) (Err e)
   outside_fails b count fewer name (Refused r) less outside = ap (λ n. output_heads n unit g schema b name) less ∙ outside (output_heads fewer unit g schema)
   outside_fails b count fewer name Memory less outside = tt
+
+  -- the same where it is refused, and where none is around it
+  pub outwards_fails : (b : Body) (o : OutputStream) (left fewer : ℕ) (name : List ℕ) (e : TypeAnswer) → left ≡ suc fewer → name ≡ o.name.what
+      → shape_matches unit g b schema o.shape ≡ Ok tt → StandsOutside unit g schema b name (Err e) → Finds (outer_output (output_heads left unit g schema) unit g schema b o) (Err e)
+  outwards_fails b o left fewer name e less named own outside =
+      goes (shape_matches unit g b schema o.shape) (λ u. output_heads left unit g schema b o.name.what) tt (Err e) own
+      (subst (λ n. Finds (output_heads left unit g schema b n) (Err e)) named (outside_fails b left fewer name e less outside))
+
+  pub outwards_end : (b : Body) (o : OutputStream) (left fewer : ℕ) (name : List ℕ) (r : Option Origin) → left ≡ suc fewer → name ≡ o.name.what
+      → shape_matches unit g b schema o.shape ≡ Ok tt → r ≡ None → StandsOutside unit g schema b name (Ok r)
+      → outer_output (output_heads left unit g schema) unit g schema b o ≡ passed
+  outwards_end b o left fewer name r less named own is outside =
+      ap (λ p. after p (λ u. output_heads left unit g schema b o.name.what)) own
+      ∙ ap (λ n. output_heads left unit g schema b n) (sym named)
+      ∙ outside_none b left fewer name r less is outside
 
   -- ---- inputs
 

@@ -7,7 +7,8 @@ use Rattle.spl_tree.specs.declared.graph.Graph.{Graph}
 use Rattle.spl_tree.specs.declared.unit.Definition.{Definition}
 use Rattle.language_model.specs.Leading.{leads_back}
 use Rattle.language_model.specs.Scopes.{At, at_place}
-use Rattle.language_model.specs.StreamTypes.{Origin, attributes_within, level_attributes, named_stream, origin_attributes, origin_of, shape_or_stream, stream_leads}
+use Rattle.language_model.specs.StreamTypes.{Origin, attributes_within, level_attributes, named_stream, origin_of, stream_leads}
+use Rattle.language_model.proofs.parts.StreamTypes.{origin_attributes, shape_or_stream}
 use Rattle.language_model.specs.TypeNames.{composite_types, shape_meant}
 use Rattle.language_model.specs.Typing.{after, mismatch, unknown}
 

@@ -9,7 +9,8 @@ use Rattle.spl_tree.specs.declared.unit.Definition.{Definition}
 use Rattle.spl_tree.specs.Trees.{Shape}
 use Rattle.language_model.specs.Leading.{leads, leads_back}
 use Rattle.language_model.specs.Scopes.{At}
-use Rattle.language_model.specs.StreamTypes.{Attributes, Body, Origin, attributes_within, named_stream, origin_attributes, origin_of, shape_or_stream, stream_leads}
+use Rattle.language_model.specs.StreamTypes.{Attributes, Body, Origin, attributes_within, named_stream, origin_of, stream_leads}
+use Rattle.language_model.proofs.parts.StreamTypes.{origin_attributes, shape_or_stream}
 use Rattle.language_model.specs.Typing.{Found, unknown}
 use Rattle.stream_rules.specs.steps.Origins.{lead_at}
 use Rattle.spl_value.proofs.Bools.{or_false}

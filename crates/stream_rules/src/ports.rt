@@ -1,5 +1,6 @@
 //! The attributes of the ports of operators.
-ghost use Rattle.language_model.specs.Checking.{are_passed, outputs_checked, port_types};
+ghost use Rattle.language_model.specs.Checking.{are_passed, port_types};
+ghost use Rattle.language_model.specs.parts.Checking.{outputs_checked};
 ghost use Rattle.language_model.specs.Finds.{Finds};
 ghost use Rattle.body_sites.specs.Bodies.{body_seen};
 ghost use Rattle.stream_rules.specs.Streams.{IsTableOf};

@@ -8,7 +8,8 @@ use Rattle.spl_value.specs.declared.value.Value.{Value}
 use Rattle.spl_value.specs.Key.{key_of}
 use Rattle.stream_model.specs.Stream.{is_empty}
 use Rattle.spl_value.specs.KeyOrder.{each_key, key_cmp, same_key}
-use Rattle.stream_model.specs.Groups.{groups, of_group}
+use Rattle.stream_model.specs.Groups.{groups}
+use Rattle.stream_model.specs.parts.Groups.{of_group}
 use Rattle.stream_model.proofs.Groups.{group_law, member_law}
 use Rattle.spl_value.proofs.KeyOrder.{find-each_key, is_each_key, same_key-equal}
 use Rattle.key_maps.proofs.MapKeys.{key_turned}

@@ -22,7 +22,9 @@ use Rattle.language_model.specs.declared.scope.Typed.{Typed}
 use Rattle.language_model.specs.Scopes.{At, unresolved_of}
 use Rattle.language_model.specs.Readings.{root_of}
 use Rattle.language_model.specs.StatementTyping.{change_typing, function_statement}
-use Rattle.language_model.specs.Typing.{Found, OnFirst, Part, after, argument_count, arguments_typed, built_in_typed, changed_typed, first_typed, function_typed, if_mutable, int32, is_mutable, level_changed, level_first, mismatch, not_callable, part_typed, refused, typed, value_given, wrong_call}
+use Rattle.language_model.specs.Typing.{Found, OnFirst, Part, after, argument_count, arguments_typed, built_in_typed, changed_typed, function_typed, if_mutable, int32, is_mutable, level_changed, level_first, mismatch, not_callable, part_typed, refused, typed, wrong_call}
+use Rattle.language_model.proofs.parts.Typing.{first_typed}
+use Rattle.language_model.specs.parts.Typing.{value_given}
 use Rattle.call_rules.specs.Calls.{Asked, asked, asked_by_change, change_asked, first_for, given, row_for, value_asked}
 use Rattle.name_rules.specs.Functions.{function_found}
 use Rattle.language_model.specs.Finds.{with_front}

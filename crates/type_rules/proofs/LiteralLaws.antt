@@ -15,7 +15,8 @@ use Rattle.spl_tree.specs.declared.expression.Placed.{Placed}
 use Rattle.language_model.specs.declared.scope.Scope.{Scope}
 use Rattle.language_model.specs.declared.scope.Typed.{Typed}
 use Rattle.language_model.specs.Scopes.{At, at_place, attribute_of}
-use Rattle.language_model.specs.Typing.{Anything, Another, Found, Part, This, Wants, after, are_distinct, elements_typed, entries_typed, field_typed, fields_typed, gives_each, list_typed, map_typed, mismatch, own_fields, part_typed, tuple_typed, typed, typing}
+use Rattle.language_model.specs.Typing.{Anything, Another, Found, Part, This, Wants, after, are_distinct, elements_typed, entries_typed, fields_typed, gives_each, list_typed, map_typed, mismatch, own_fields, part_typed, tuple_typed, typed, typing}
+use Rattle.language_model.proofs.parts.Typing.{field_typed}
 use Rattle.language_model.specs.TypingLaws.{entry_parts, field_part, field_parts, parted, parts}
 use Rattle.language_model.specs.declared.answer.TypeAnswer.{TypeAnswer}
 use Rattle.language_model.specs.Finds.{Finds}

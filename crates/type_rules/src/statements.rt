@@ -3,7 +3,8 @@ ghost use Rattle.std.specs.Prelude.{◌≡◌, ◌==◌, None, length, if◌then
 ghost use Rattle.spl_value.specs.declared.types.SplType.TheViews.{out-SplType};
 ghost use Rattle.language_model.specs.Typing.{Found, after, argument_count, call_of, changed_typed, level_changed, level_operator, operands_typed, typed, wrong_call};
 ghost use Rattle.language_model.specs.TypingLaws.{parted, parts};
-ghost use Rattle.language_model.specs.StatementTyping.{function_statement, assignment_typing, compound_typing, call_typing, call_statement, change_typing, change_made};
+ghost use Rattle.language_model.specs.StatementTyping.{function_statement, assignment_typing, compound_typing, call_typing, change_typing, change_made};
+ghost use Rattle.language_model.specs.parts.StatementTyping.{call_statement};
 ghost use Rattle.language_model.specs.Scopes.{function_of};
 ghost use Rattle.language_model.specs.declared.scope.Typed.{Typed};
 ghost use Rattle.spl_tree.specs.declared.code.Code.TheVariants as C;

@@ -14,7 +14,9 @@ use Rattle.spl_value.specs.Pairs.{pairs_get, pairs_put}
 use Rattle.spl_tree.specs.declared.code.Selector.{Selector}
 use Rattle.spl_tree.specs.declared.code.Selector.TheVariants as K
 use Rattle.language_model.specs.Changes.{passed_on, changed, level_changed, level_index}
-use Rattle.language_model.specs.Operators.{found, given, level_element}
+use Rattle.language_model.specs.Operators.{level_element}
+use Rattle.language_model.specs.parts.Operators.{found}
+use Rattle.language_model.proofs.parts.Operators.{given}
 use Rattle.value_operations.specs.declared.stop.Stop.{Stop}
 use Rattle.value_operations.specs.declared.stop.Stop.TheVariants as S
 use Rattle.value_operations.specs.steps.Places.{IsPlaceIn}

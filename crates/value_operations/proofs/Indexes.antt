@@ -13,7 +13,8 @@ use Rattle.spl_value.specs.declared.value.Value.TheViews.{out-Value}
 use Rattle.spl_value.proofs.FitsLaws.{fits_int, int_from_fits}
 use Rattle.spl_value.specs.Values.{fits, kind_holds}
 use Rattle.language_model.specs.Changes.{level_index}
-use Rattle.language_model.specs.Operators.{found, element_at, level_element}
+use Rattle.language_model.specs.Operators.{element_at, level_element}
+use Rattle.language_model.specs.parts.Operators.{found}
 use Rattle.value_operations.specs.steps.Places.{IsIndex, IsPlaceIn}
 use Rattle.value_operations.proofs.Parts.{below}
 use Rattle.spl_value.proofs.Widths.{kept_in_128}

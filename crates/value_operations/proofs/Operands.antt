@@ -25,7 +25,8 @@ use Rattle.spl_tree.specs.declared.code.UnaryCode.{UnaryCode}
 use Rattle.spl_tree.specs.declared.code.UnaryCode.TheVariants as U
 use Rattle.language_model.specs.CodeFits as F
 use Rattle.language_model.specs.CodeFits.{UnaryGives, BinaryGives}
-use Rattle.language_model.specs.Operators.{bool_text, level_unary, unary_of}
+use Rattle.language_model.specs.Operators.{level_unary}
+use Rattle.language_model.specs.parts.Operators.{bool_text, unary_of}
 use Rattle.value_operations.specs.Fitting.{FitBinary, FitRelation}
 use Rattle.value_operations.specs.steps.Unaries.{FitsUnary}
 use Rattle.value_operations.proofs.Parts.{pairs_of}

@@ -24,7 +24,9 @@ use Rattle.spl_tree.specs.declared.code.BinaryCode.TheVariants as D
 use Rattle.spl_tree.specs.declared.code.OrderOperator.{OrderOperator}
 use Rattle.spl_tree.specs.declared.code.UnaryCode.{UnaryCode}
 use Rattle.spl_tree.specs.declared.code.UnaryCode.TheVariants as U
-use Rattle.language_model.specs.Operators.{boolean, in_order, is_equal, level_in_list, binary_of, integer, level_unary, unary_of}
+use Rattle.language_model.specs.Operators.{in_order, level_in_list, binary_of, integer, level_unary}
+use Rattle.language_model.specs.parts.Operators.{boolean, unary_of}
+use Rattle.language_model.proofs.parts.Operators.{is_equal}
 use Rattle.value_operations.specs.Fitting.{FitBinary}
 use Rattle.value_operations.specs.steps.Unaries.{FitsUnary}
 use Rattle.value_operations.proofs.Operands.{alike_operands, unary_holds}

@@ -17,7 +17,9 @@ use Rattle.spl_value.specs.Calls.{Gives, Faults}
 use Rattle.spl_value.proofs.FitsLaws.{pair_fits, fits_int, fits_map, fits_tuple, int_from_fits, list_from_fits, map_from_fits, tuple_from_fits}
 use Rattle.spl_value.specs.Pairs.{are_pairs}
 use Rattle.spl_value.specs.Values.{fits, tuple_fits, kind_holds}
-use Rattle.language_model.specs.Operators.{found, given, level_member, element_at, level_element}
+use Rattle.language_model.specs.Operators.{level_member, element_at, level_element}
+use Rattle.language_model.specs.parts.Operators.{found}
+use Rattle.language_model.proofs.parts.Operators.{given}
 use Rattle.value_operations.specs.Taking.{HasMember, HasElements, HasKeys}
 use Rattle.value_operations.proofs.Sizes.{natural_fits}
 use Rattle.spl_value.proofs.Bools.{and_left as first_true}

@@ -9,7 +9,7 @@ use Rattle.spl_tree.specs.declared.code.UnaryCode.{UnaryCode}
 use Rattle.language_model.specs.CodeFits as F
 use Rattle.language_model.specs.CodeFits.{UnaryGives, UnariesGive}
 use Rattle.language_model.specs.Evaluation.{unaries_of}
-use Rattle.language_model.specs.Operators.{unary_of}
+use Rattle.language_model.specs.parts.Operators.{unary_of}
 use Rattle.language_model.specs.Outcomes.{Outcome, Done, Faulted, Stuck, followed, settled}
 use Rattle.value_operations.specs.Fitting.{FitsUnaries}
 use Rattle.value_operations.specs.steps.Unaries.{FitsUnary}

@@ -5,7 +5,7 @@ use Rattle.spl_value.specs.declared.item.Evaluated.TheVariants as E
 use Rattle.spl_value.specs.declared.item.FaultKind.TheVariants as K
 use Rattle.spl_value.specs.declared.value.Value.{Value}
 use Rattle.spl_value.specs.Calls.{CallOutcome, Gives, Faults}
-use Rattle.language_model.specs.Operators.{truth_of}
+use Rattle.language_model.specs.parts.Operators.{truth_of}
 use Rattle.language_model.specs.Outcomes.{Outcome, Done, Faulted, followed, need}
 use Rattle.value_operations.specs.declared.held.Held.{Held}
 use Rattle.value_operations.specs.declared.held.Held.TheVariants as H

@@ -2,7 +2,7 @@
 ghost use Rattle.std.specs.Prelude.{[], ◌∷◌, ◌≡◌, ℕ, Ok};
 ghost use Rattle.spl_value.specs.declared.value.Value.{Value};
 ghost use Rattle.spl_value.specs.Calls.{Answers as CallAnswers, CallOutcome};
-ghost use Rattle.language_model.specs.BuiltInCalls.{built_in_of};
+ghost use Rattle.language_model.specs.parts.BuiltInCalls.{built_in_of};
 ghost use Rattle.language_model.specs.Outcomes.{Outcome, followed, settled};
 ghost use Rattle.value_operations.specs.declared.held.Held.{Held};
 ghost use Rattle.value_operations.specs.Answers.{Answers, AnswersHeld, Settles, held};

@@ -3,7 +3,7 @@ ghost use Rattle.std.specs.Prelude.{◌≡◌, IsTrue, IfOk, MatchOption, Some, 
 ghost use Rattle.spl_value.specs.declared.types.SplType.TheVariants as T;
 ghost use Rattle.spl_value.specs.Values.{fits};
 ghost use Rattle.language_model.specs.Evaluation.{slot_value, same_marker};
-ghost use Rattle.language_model.specs.Operators.{truth_of};
+ghost use Rattle.language_model.specs.parts.Operators.{truth_of};
 ghost use Rattle.value_operations.specs.Answers.{Entered, ReadsHeld};
 ghost use Rattle.value_operations.specs.Fitting.{HasSlot, HasMarker, IsPort};
 

@@ -1,7 +1,8 @@
 //! Truths of what is evaluated, with no value made.
 ghost use Rattle.std.specs.Prelude.{◌≡◌, ℕ, Bool, List, Ok};
 ghost use Rattle.spl_value.specs.declared.value.Value.{Value};
-ghost use Rattle.language_model.specs.Operators.{binary_of, boolean};
+ghost use Rattle.language_model.specs.Operators.{binary_of};
+ghost use Rattle.language_model.specs.parts.Operators.{boolean};
 ghost use Rattle.language_model.specs.Outcomes.{Outcome, followed, settled};
 ghost use Rattle.value_operations.specs.declared.held.Held.{Held};
 ghost use Rattle.value_operations.specs.Answers.{Answers, AnswersHeld, IsMadeAs, IsSo, as_truth, held};

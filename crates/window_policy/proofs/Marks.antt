@@ -8,7 +8,9 @@ use Rattle.language_model.specs.declared.checked.WindowRule.{WindowRule}
 use Rattle.language_model.specs.declared.checked.WindowRule.TheVariants as W
 use Rattle.stream_model.specs.Stream.{is_empty}
 use Rattle.spl_value.specs.KeyOrder.{key_cmp}
-use Rattle.stream_model.specs.Windows.{WindowEvent, Mark, tuples_with, keys_of, has_come, since_mark, relevant, content, in_order, held, flushed_behind, last_of}
+use Rattle.stream_model.specs.Windows.{WindowEvent, Mark, tuples_with, keys_of, has_come, since_mark, content, in_order, held, flushed_after}
+use Rattle.stream_model.specs.parts.Windows.{relevant}
+use Rattle.stream_model.proofs.parts.Windows.{last_of}
 use Rattle.spl_value.proofs.KeyOrder.{is_each_key}
 use Rattle.stream_model.proofs.Contents.{come_is}
 use Rattle.window_policy.specs.declared.part.Part.{Part}
@@ -48,15 +50,15 @@ held_exactly q h (Some p) at = ap Some at.0.items ∙ ap (λ b. cond b (Some (in
 
 flushes_parts : (h : List WindowEvent) (es : List (List Value × Part)) (f : List Value → Option Part) → T (is_sorted key_cmp es)
     → ((q : List Value) → find key_cmp q es ≡ f q) → ((q : List Value) → At W.TumblingPunct (f q) (tuples_with q (since_mark h)))
-    → map taken es ≡ flushed_behind W.TumblingPunct h
+    → map taken es ≡ flushed_after W.TumblingPunct h
 flushes_parts h es f up found at =
     is_each_key (λ k. content W.TumblingPunct k h) (keys_of (since_mark h)) (map taken es) (subst T (sym (sorted-taken es)) up)
     (λ q. find-taken q es ∙ ap held_in (found q) ∙ held_exactly q (since_mark h) (f q) (at q))
 
 pub flushes_all : (rule : WindowRule) → rule ≡ W.TumblingPunct → (h : List WindowEvent) (es : List (List Value × Part)) (f : List Value → Option Part) → T (is_sorted key_cmp es)
-    → ((q : List Value) → find key_cmp q es ≡ f q) → ((q : List Value) → At rule (f q) (tuples_with q (relevant rule h))) → map taken es ≡ flushed_behind rule h
+    → ((q : List Value) → find key_cmp q es ≡ f q) → ((q : List Value) → At rule (f q) (tuples_with q (relevant rule h))) → map taken es ≡ flushed_after rule h
 flushes_all rule is h es f up found =
-    subst (λ r. ((q : List Value) → At r (f q) (tuples_with q (relevant r h))) → map taken es ≡ flushed_behind r h) (sym is) (flushes_parts h es f up found)
+    subst (λ r. ((q : List Value) → At r (f q) (tuples_with q (relevant r h))) → map taken es ≡ flushed_after r h) (sym is) (flushes_parts h es f up found)
 
 -- nothing counts after a marker, where markers flush
 pub nothing_counts : (rule : WindowRule) → rule ≡ W.TumblingPunct → (k : List Value) (h : List WindowEvent) → tuples_with k (relevant rule (Mark ∷ h)) ≡ []

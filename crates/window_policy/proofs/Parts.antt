@@ -3,7 +3,9 @@ use Rattle.std.proofs.Common.{ℕ, ℤ, suc, ◌+◌, ◌-◌, ◌≤◌, ◌<�
 use Rattle.spl_value.specs.declared.value.Value.{Value}
 use Rattle.language_model.specs.declared.checked.WindowRule.{WindowRule}
 use Rattle.language_model.specs.declared.checked.WindowRule.TheVariants as W
-use Rattle.stream_model.specs.Windows.{Insert, tuples_with, last_of, exceeds, held, flush_if, trigger_if, fires_behind}
+use Rattle.stream_model.specs.Windows.{Insert, tuples_with, exceeds, held, trigger_if, fires_after}
+use Rattle.stream_model.proofs.parts.Windows.{last_of}
+use Rattle.stream_model.specs.parts.Windows.{flush_if}
 use Rattle.stream_model.specs.WindowLaws.{exceeds_first}
 use Rattle.stream_model.proofs.Contents.{sliding_count_law, tumbling_count_insert, tumbling_delta_insert, sliding_count_insert, sliding_delta_insert}
 use Rattle.window_policy.specs.Answers.{firing_of}
@@ -21,24 +23,24 @@ module _ (t : List Value) (ts : List (List Value)) where
   count_step : (n : ℕ) → 0 < n
       → (held (W.TumblingCount n) (t ∷ ts)
       ≡ cond (length (held (W.TumblingCount n) ts ++ t ∷ []) == n) [] (held (W.TumblingCount n) ts ++ t ∷ []))
-      × (fires_behind (W.TumblingCount n) t ts
+      × (fires_after (W.TumblingCount n) t ts
       ≡ flush_if (length (held (W.TumblingCount n) ts ++ t ∷ []) == n) (held (W.TumblingCount n) ts ++ t ∷ []))
   count_step n some =
       subst (λ (us : List (List Value)). (held (W.TumblingCount n) (t ∷ us)
       ≡ cond (length (held (W.TumblingCount n) us ++ t ∷ []) == n) [] (held (W.TumblingCount n) us ++ t ∷ []))
-      × (fires_behind (W.TumblingCount n) t us
+      × (fires_after (W.TumblingCount n) t us
       ≡ flush_if (length (held (W.TumblingCount n) us ++ t ∷ []) == n) (held (W.TumblingCount n) us ++ t ∷ [])))
       (own_tuples ts) (tumbling_count_insert n [] t (map (Insert []) ts) some)
 
   tumbling_step : (a : ℕ) (limit : ℤ)
       → (held (W.TumblingDelta a limit) (t ∷ ts)
       ≡ cond (exceeds_first a limit t (held (W.TumblingDelta a limit) ts)) (t ∷ []) (held (W.TumblingDelta a limit) ts ++ t ∷ []))
-      × (fires_behind (W.TumblingDelta a limit) t ts
+      × (fires_after (W.TumblingDelta a limit) t ts
       ≡ flush_if (exceeds_first a limit t (held (W.TumblingDelta a limit) ts)) (held (W.TumblingDelta a limit) ts))
   tumbling_step a limit =
       subst (λ (us : List (List Value)). (held (W.TumblingDelta a limit) (t ∷ us)
       ≡ cond (exceeds_first a limit t (held (W.TumblingDelta a limit) us)) (t ∷ []) (held (W.TumblingDelta a limit) us ++ t ∷ []))
-      × (fires_behind (W.TumblingDelta a limit) t us
+      × (fires_after (W.TumblingDelta a limit) t us
       ≡ flush_if (exceeds_first a limit t (held (W.TumblingDelta a limit) us)) (held (W.TumblingDelta a limit) us)))
       (own_tuples ts) (tumbling_delta_insert a limit [] t (map (Insert []) ts))
 
@@ -64,7 +66,7 @@ module _ (t : List Value) (ts : List (List Value)) where
 
   -- the effect of an added tuple
   abbrev pub Added : WindowRule → Part → Part → Fired → Type 0
-  Added rule p q f = Keeps rule p ts → Keeps rule q (t ∷ ts) × (firing_of f (held rule (t ∷ ts)) ≡ fires_behind rule t ts)
+  Added rule p q f = Keeps rule p ts → Keeps rule q (t ∷ ts) × (firing_of f (held rule (t ∷ ts)) ≡ fires_after rule t ts)
 
   pub fills : (n : ℕ) (rule : WindowRule) → rule ≡ W.TumblingCount n → (p q : Part) (f : Fired)
       → q.kept.items ≡ cond (length (p.kept.items ++ t ∷ []) == n) [] (p.kept.items ++ t ∷ [])

@@ -6,7 +6,8 @@ use Rattle.language_model.specs.declared.checked.WindowRule.{WindowRule}
 use Rattle.language_model.specs.declared.checked.WindowRule.TheVariants as W
 use Rattle.stream_model.specs.Stream.{is_empty}
 use Rattle.spl_value.specs.KeyOrder.{same_key}
-use Rattle.stream_model.specs.Windows.{WindowEvent, Insert, Mark, tuples_with, relevant, since_mark, has_come, held, content, tuple_fires, fires_behind}
+use Rattle.stream_model.specs.Windows.{WindowEvent, Insert, Mark, tuples_with, since_mark, has_come, held, content, fires_after}
+use Rattle.stream_model.specs.parts.Windows.{relevant, tuple_fires}
 use Rattle.spl_value.proofs.KeyOrder.{same_key-equal, same_key-itself}
 use Rattle.stream_model.proofs.Contents.{come_is}
 use Rattle.key_maps.specs.MapKeys.{equal_key}
@@ -75,7 +76,7 @@ newest rule key t h =
     ∙ ap (λ g. held rule (tuples_with key g)) (counts_too rule key t h)
 
 -- what it fires by what counts
-pub fires_by : (rule : WindowRule) (key t : List Value) (h : List WindowEvent) → fires_behind rule t (tuples_with key (relevant rule h)) ≡ tuple_fires rule key t h
+pub fires_by : (rule : WindowRule) (key t : List Value) (h : List WindowEvent) → fires_after rule t (tuples_with key (relevant rule h)) ≡ tuple_fires rule key t h
 fires_by W.TumblingPunct key t h = refl
 fires_by (W.TumblingCount n) key t h = refl
 fires_by (W.TumblingDelta a limit) key t h = refl

@@ -5,7 +5,8 @@ use Rattle.indexmap.specs.IndexMap.{get}
 use Rattle.indexmap.specs.IndexSet.{contains}
 use Rattle.spl_value.specs.declared.value.Value.{Value}
 use Rattle.language_model.specs.declared.checked.WindowRule.{WindowRule}
-use Rattle.stream_model.specs.Windows.{WindowEvent, tuples_with, relevant, has_come, flushes_at_markers}
+use Rattle.stream_model.specs.Windows.{WindowEvent, tuples_with, has_come, flushes_at_markers}
+use Rattle.stream_model.specs.parts.Windows.{relevant}
 use Rattle.window_policy.specs.declared.window.Window.{Window}
 use Rattle.window_policy.specs.Answers.{IsAllowed}
 use Rattle.key_maps.specs.MapKeys.{equal_key}

@@ -1,6 +1,7 @@
 //! Windows of a number of tuples, and triggers.
 ghost use Rattle.std.specs.Prelude.{◌≡◌, ◌∷◌, [], ◌++◌, ◌==◌, suc, length, IfOk, if◌then◌else◌};
-ghost use Rattle.stream_model.specs.Windows.{flush_if, trigger_if};
+ghost use Rattle.stream_model.specs.Windows.{trigger_if};
+ghost use Rattle.stream_model.specs.parts.Windows.{flush_if};
 ghost use Rattle.window_policy.specs.Answers.{firing_of};
 ghost use Rattle.window_policy.specs.Parts.{CountsTo};
 

@@ -1,7 +1,8 @@
 //! Windows by the differences of an attribute.
 ghost use Rattle.std.specs.Prelude.{◌≡◌, ◌∷◌, [], ◌++◌, ◌-◌, ◌-ℤ◌, ◌<◌, true, false, not, filter, length, slice_get, int_lt, IfOk, if◌then◌else◌};
 ghost use Rattle.circular_buffer.specs.Buffer.{last_item};
-ghost use Rattle.stream_model.specs.Windows.{integer_at as integer_of_tuple, exceeds as exceeds_by, flush_if};
+ghost use Rattle.stream_model.specs.Windows.{integer_at as integer_of_tuple, exceeds as exceeds_by};
+ghost use Rattle.stream_model.specs.parts.Windows.{flush_if};
 ghost use Rattle.stream_model.specs.WindowLaws.{exceeds_first as first_exceeded};
 ghost use Rattle.window_policy.specs.Answers.{firing_of};
 ghost use Rattle.window_policy.specs.Deltas.{Rises};

@@ -1,6 +1,7 @@
 //! What comes into a window, and what it holds.
 ghost use Rattle.std.specs.Prelude.{◌≡◌, ◌∷◌, [], IfOk, IfSome, IfNone, true, false};
-ghost use Rattle.stream_model.specs.Windows.{Insert, held, fires_behind, content as content_of, has_come, tuple_fires, flushes_at_markers};
+ghost use Rattle.stream_model.specs.Windows.{Insert, held, fires_after, content as content_of, has_come, flushes_at_markers};
+ghost use Rattle.stream_model.specs.parts.Windows.{tuple_fires};
 ghost use Rattle.indexmap.specs.IndexSet.{contains};
 ghost use Rattle.window_policy.specs.Answers.{firing_of, IsAllowed};
 ghost use Rattle.window_policy.specs.Standing.{Stands};
@@ -19,7 +20,7 @@ use std::alloc::Global;
 
 /// What is held for a key of which nothing is held yet, with its first tuple. Whether the window fires.
 fn first(alloc: Global, rule: WindowRule, tuple: Values) -> Result<(Part, Fired), NoMemory>
-    ensures { IfOk result (λ r. IsAllowed rule → Keeps rule r.0 (tuple ∷ []) × (firing_of r.1 (held rule (tuple ∷ [])) ≡ fires_behind rule tuple [])) }
+    ensures { IfOk result (λ r. IsAllowed rule → Keeps rule r.0 (tuple ∷ []) × (firing_of r.1 (held rule (tuple ∷ [])) ≡ fires_after rule tuple [])) }
 {
     let mut part = Part::new(alloc)?;
     let fired = part.add(alloc, rule, tuple)?;
@@ -57,7 +58,7 @@ fn begin(
     key: &Values,
     tuple: Values,
 ) -> Result<(Part, Fired), NoMemory>
-    ensures kept { IfOk result (λ r. IsAllowed rule → Keeps rule r.0 (tuple ∷ []) × (firing_of r.1 (held rule (tuple ∷ [])) ≡ fires_behind rule tuple [])) }
+    ensures kept { IfOk result (λ r. IsAllowed rule → Keeps rule r.0 (tuple ∷ []) × (firing_of r.1 (held rule (tuple ∷ [])) ≡ fires_after rule tuple [])) }
     ensures noted { IfOk result (λ _. Notes (flushes_at_markers rule) known.old known.new key.now) }
 {
     note(alloc, known, rule, key)?;

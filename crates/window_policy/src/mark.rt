@@ -1,6 +1,6 @@
 //! What a window marker does.
 ghost use Rattle.std.specs.Prelude.{◌≡◌, ◌∷◌, IfOk, map};
-ghost use Rattle.stream_model.specs.Windows.{Mark, flushed_behind};
+ghost use Rattle.stream_model.specs.Windows.{Mark, flushed_after};
 ghost use Rattle.window_policy.specs.Answers.{entry_of};
 ghost use Rattle.window_policy.specs.Standing.{Stands};
 ghost use Rattle.window_policy.specs.steps.Parts.{taken};
@@ -41,7 +41,7 @@ impl Window {
     /// Takes a window marker. Where markers flush, each content that isn't empty leaves the window, and they
     /// are the answer, by ascending key. After a lack of memory nothing is said of the window.
     pub fn mark(&mut self) -> Result<Flushed, NoMemory>
-        ensures flushed { IfOk result (λ f. (rule h : _) → Stands rule self.old h → map entry_of f ≡ flushed_behind rule h) }
+        ensures flushed { IfOk result (λ f. (rule h : _) → Stands rule self.old h → map entry_of f ≡ flushed_after rule h) }
         ensures stands { IfOk result (λ _. (rule h : _) → Stands rule self.old h → Stands rule self.new (Mark ∷ h)) }
     {
         match self.policy.rule {

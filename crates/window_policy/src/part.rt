@@ -1,6 +1,6 @@
 //! The window of one key.
 ghost use Rattle.std.specs.Prelude.{◌≡◌, ◌∷◌, [], IfOk};
-ghost use Rattle.stream_model.specs.Windows.{held, fires_behind};
+ghost use Rattle.stream_model.specs.Windows.{held, fires_after};
 ghost use Rattle.window_policy.specs.Answers.{firing_of, IsAllowed};
 ghost use Rattle.window_policy.specs.Parts.{Keeps};
 
@@ -39,7 +39,7 @@ impl Part {
     /// Takes one more tuple. Whether the window fires.
     pub fn add(&mut self, alloc: Global, rule: WindowRule, tuple: Values) -> Result<Fired, NoMemory>
         ensures { IfOk result (λ f. (ts : _) → Keeps rule self.old ts
-            → Keeps rule self.new (tuple ∷ ts) × (firing_of f (held rule (tuple ∷ ts)) ≡ fires_behind rule tuple ts)) }
+            → Keeps rule self.new (tuple ∷ ts) × (firing_of f (held rule (tuple ∷ ts)) ≡ fires_after rule tuple ts)) }
     {
         match rule {
             WindowRule::TumblingCount(count) => {

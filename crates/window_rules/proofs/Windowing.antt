@@ -13,7 +13,8 @@ use Rattle.language_model.specs.declared.scope.CheckError.TheVariants as E
 use Rattle.language_model.specs.declared.scope.Port.{Port}
 use Rattle.language_model.specs.declared.kinds.WindowForm.{WindowForm}
 use Rattle.language_model.specs.Checking.{each_window, policy_of, windows_of_form}
-use Rattle.language_model.specs.Policies.{Numbers, Parts, delta_of, has_name, in_front, is_word, measured, only_count, partitioned_last, window_at, window_of, windows_typing}
+use Rattle.language_model.specs.Policies.{Numbers, Parts, delta_of, has_name, is_word, measured, only_count, partitioned_last, window_at, window_of, windows_typing}
+use Rattle.language_model.proofs.parts.Policies.{in_front}
 use Rattle.language_model.specs.Scopes.{At, at_place, first_from}
 use Rattle.language_model.specs.Typing.{Found, after, refused}
 use Rattle.language_model.specs.declared.answer.TypeAnswer.{TypeAnswer}

@@ -1,7 +1,8 @@
 //! The number literals that expressions give.
 ghost use Rattle.std.specs.Prelude.{◌≡◌, None, Ok};
 ghost use Rattle.spl_tree.specs.declared.expression.ExprKind.TheViews.{out-ExprKind};
-ghost use Rattle.language_model.specs.Literals.{number_literal, number_of};
+ghost use Rattle.language_model.specs.Literals.{number_literal};
+ghost use Rattle.language_model.specs.parts.Literals.{number_of};
 ghost use Rattle.language_model.specs.Typing.{after, typing};
 ghost use Rattle.language_model.specs.Finds.{Finds};
 ghost use Rattle.literal_sites.specs.Sites.{numbers_at};

@@ -7,7 +7,8 @@ use Rattle.std.proofs.lemmas.Option.{same_Some, slice_get_within}
 use Rattle.spl_tree.specs.declared.unit.TypeDefinition.{TypeDefinition}
 use Rattle.language_model.specs.Leading.{leads_back}
 use Rattle.language_model.specs.Scopes.{At, at_place}
-use Rattle.language_model.specs.TypeNames.{Names, definition_of, leads_to, is_circular, shape_names}
+use Rattle.language_model.specs.TypeNames.{definition_of, leads_to}
+use Rattle.language_model.specs.parts.TypeNames.{Names, is_circular, shape_names}
 use Rattle.language_model.proofs.DefinedTypes.{there}
 use Rattle.written_types.specs.Circles.{TellsCircular}
 use Rattle.written_types.specs.steps.Circles.{TellsBack, with_circle}

@@ -8,7 +8,8 @@ use Rattle.spl_tree.specs.declared.shape.TypeKind.TheVariants as V
 use Rattle.spl_tree.specs.declared.unit.TypeDefinition.{TypeDefinition}
 use Rattle.spl_tree.specs.Trees.{TypeExpr}
 use Rattle.language_model.specs.Scopes.{At, at_place}
-use Rattle.language_model.specs.TypeNames.{Names, definition_of, type_names}
+use Rattle.language_model.specs.TypeNames.{definition_of, type_names}
+use Rattle.language_model.specs.parts.TypeNames.{Names}
 use Rattle.language_model.proofs.TypeNameLaws.{kind_names_in, map_names}
 use Rattle.language_model.proofs.DefinedTypes.{there}
 use Rattle.written_types.specs.steps.Definitions.{places_of}

@@ -4,7 +4,8 @@ use Rattle.std.proofs.Common.{refl, ap, sym, ◌∙◌}
 use Rattle.spl_value.specs.declared.types.SplType.{SplType}
 use Rattle.spl_tree.specs.declared.unit.TypeDefinition.{TypeDefinition}
 use Rattle.language_model.specs.Scopes.{At}
-use Rattle.language_model.specs.TypeNames.{Types, definition_of, defined_type, shape_meant, types_of}
+use Rattle.language_model.specs.TypeNames.{Types, definition_of, shape_meant, types_of}
+use Rattle.language_model.specs.parts.TypeNames.{defined_type}
 use Rattle.language_model.specs.Typing.{Found, unknown}
 use Rattle.language_model.proofs.DefinedTypes.{names_law}
 use Rattle.written_types.specs.steps.Circles.{with_circle}

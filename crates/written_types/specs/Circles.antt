@@ -1,7 +1,7 @@
 -- Which definitions lead back to themselves.
 use Rattle.std.specs.Prelude.{◌≡◌, ◌<◌, ℕ, Bool, List, length, Some, slice_get}
 use Rattle.spl_tree.specs.declared.unit.TypeDefinition.{TypeDefinition}
-use Rattle.language_model.specs.TypeNames.{is_circular}
+use Rattle.language_model.specs.parts.TypeNames.{is_circular}
 
 -- a flag for each of some places, and whether the test passes there
 abbrev pub Tells : ℕ → (ℕ → Bool) → List Bool → Type 0

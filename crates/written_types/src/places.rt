@@ -1,6 +1,7 @@
 //! Where the names in types lead.
 ghost use Rattle.std.specs.Prelude.{◌≡◌, ◌++◌, OnOk, IfOk, flat_map};
-ghost use Rattle.language_model.specs.TypeNames.{type_names, shape_names};
+ghost use Rattle.language_model.specs.TypeNames.{type_names};
+ghost use Rattle.language_model.specs.parts.TypeNames.{shape_names};
 ghost use Rattle.written_types.specs.steps.Definitions.{places_of, rows_of};
 
 use crate::DEEPEST;

@@ -6,7 +6,8 @@ use Rattle.spl_value.specs.declared.value.Value.{Value}
 use Rattle.language_model.specs.declared.checked.WindowRule.{WindowRule}
 use Rattle.language_model.specs.declared.outs.Output.{Output}
 use Rattle.language_model.specs.Outcomes.{Done, followed, need}
-use Rattle.stream_model.specs.Aggregates.{arguments, marker_passed}
+use Rattle.stream_model.specs.Aggregates.{arguments}
+use Rattle.stream_model.specs.parts.Aggregates.{marker_passed}
 use Rattle.stream_model.specs.Bodies.{Makes, at_tuple, most_turns}
 use Rattle.stream_model.specs.Windows.{WindowEvent, Insert, Mark, fired_contents}
 use Rattle.window_policy.specs.declared.window.Window.{Window}

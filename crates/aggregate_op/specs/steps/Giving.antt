@@ -4,7 +4,7 @@ use Rattle.std.specs.Option.{option_and_then, option_map}
 use Rattle.spl_value.specs.declared.item.Item.TheVariants as I
 use Rattle.spl_value.specs.declared.value.Value.{Value}
 use Rattle.language_model.specs.declared.outs.Output.{Output}
-use Rattle.stream_model.specs.Aggregates.{marker_after}
+use Rattle.stream_model.specs.parts.Aggregates.{marker_after}
 use Rattle.stream_model.specs.Bodies.{on_first}
 use Rattle.stream_model.specs.Groups.{groups}
 use Rattle.tuple_groups.specs.Columns.{tuple_at}

@@ -3,7 +3,7 @@ ghost use Rattle.std.specs.Prelude.{◌≡◌, ◌∷◌, ◌++◌, [], IfOk, Li
 ghost use Rattle.spl_value.specs.declared.value.Value.{Value as V};
 ghost use Rattle.language_model.specs.declared.checked.WindowRule.{WindowRule as Rule};
 ghost use Rattle.language_model.specs.declared.outs.Output.{Output as O};
-ghost use Rattle.stream_model.specs.Aggregates.{marker_passed};
+ghost use Rattle.stream_model.specs.parts.Aggregates.{marker_passed};
 ghost use Rattle.stream_model.specs.Bodies.{at_tuple};
 ghost use Rattle.stream_model.specs.React.{answer};
 ghost use Rattle.stream_model.specs.Windows.{Insert, Mark, WindowEvent, content, contents_of, fired_contents};

@@ -5,7 +5,8 @@ use Rattle.spl_tree.specs.declared.body.Statement.TheVariants as T
 use Rattle.spl_tree.specs.declared.expression.Placed.{Placed}
 use Rattle.spl_tree.specs.Trees.{Expr}
 use Rattle.language_model.specs.declared.scope.Scope.{Scope}
-use Rattle.language_model.specs.BodyTyping.{Setting, Stated, alone, arms_typing, condition_typing, other_typing, row_typing}
+use Rattle.language_model.specs.BodyTyping.{Setting, Stated, alone, arms_typing, condition_typing, row_typing}
+use Rattle.language_model.specs.parts.BodyTyping.{other_typing}
 use Rattle.language_model.specs.Typing.{Found, after}
 
 abbrev pub block_typing : Setting → Bool → Scope → List (Placed Stated) → Found Statement

@@ -10,7 +10,8 @@ use Rattle.language_model.specs.declared.scope.Scope.{Scope}
 use Rattle.language_model.specs.BodyFits.{OfFunction}
 use Rattle.language_model.specs.BodyTyping.{body_typing, variable}
 use Rattle.language_model.specs.Composites.{functions}
-use Rattle.language_model.specs.FunctionTyping.{FunctionTypes as Typing, function_types, signature, as_signature, as_unresolved, if_returning}
+use Rattle.language_model.specs.FunctionTyping.{FunctionTypes as Typing, function_types, signature, if_returning}
+use Rattle.language_model.specs.parts.FunctionTyping.{as_signature, as_unresolved}
 use Rattle.language_model.specs.TypeNames.{Types}
 use Rattle.language_model.specs.Typing.{Found, after}
 use Rattle.body_rules.specs.declared.functions.FunctionTypes.{FunctionTypes}

@@ -2,7 +2,8 @@
 ghost use Rattle.std.specs.Prelude.{◌≡◌, Ok, Some, length};
 ghost use Rattle.std.specs.Option.{option_copied};
 ghost use Rattle.spl_value.specs.declared.types.SplType.TheViews.{out-SplType};
-ghost use Rattle.language_model.specs.BodyTyping.{assigned, condition_typing, declaration_typing, first_value, level_over, over_typing, return_typing};
+ghost use Rattle.language_model.specs.BodyTyping.{condition_typing, first_value, level_over, return_typing};
+ghost use Rattle.language_model.specs.parts.BodyTyping.{assigned, declaration_typing, over_typing};
 ghost use Rattle.language_model.specs.Typing.{after, typing};
 ghost use Rattle.body_rules.specs.steps.Leads.{Leads, inside_loop, shortened};
 ghost use Rattle.body_rules.specs.Settings.{purpose_meant, setting_meant};

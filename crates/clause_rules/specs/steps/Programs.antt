@@ -6,7 +6,8 @@ use Rattle.spl_tree.specs.declared.unit.Definition.{Definition}
 use Rattle.spl_tree.specs.declared.unit.Invocation.{Invocation}
 use Rattle.language_model.specs.declared.checked.CheckedClauses.{CheckedClauses}
 use Rattle.language_model.specs.declared.scope.Scope.{Scope}
-use Rattle.language_model.specs.Checking.{clauses_checked, each_stream, operators_checked, port_types, ports_checked, ports_of, surroundings}
+use Rattle.language_model.specs.Checking.{clauses_checked, port_types}
+use Rattle.language_model.specs.parts.Checking.{each_stream, operators_checked, ports_checked, ports_of, surroundings}
 use Rattle.language_model.specs.FlatLaws.{IsInvoked}
 use Rattle.language_model.specs.DollarTargets.{followed}
 use Rattle.language_model.specs.Numbering.{numbers_from}

@@ -7,7 +7,8 @@ use Rattle.spl_tree.specs.declared.unit.Composite.{Composite}
 use Rattle.spl_tree.specs.declared.unit.Definition.{Definition}
 use Rattle.spl_tree.specs.declared.unit.Invocation.{Invocation}
 use Rattle.spl_tree.specs.Trees.{placed}
-use Rattle.language_model.specs.Invoking.{Operator, Body, Nothing, target_of, is_nothing, is_parameter, is_readable}
+use Rattle.language_model.specs.Invoking.{Operator, Body, Nothing, target_of, is_nothing, is_parameter}
+use Rattle.language_model.specs.parts.Invoking.{is_readable}
 use Rattle.language_model.specs.Mentions.{Mentions, dollars}
 use Rattle.language_model.specs.Invoking as I
 use Rattle.language_model.specs.Scopes.{at_place}

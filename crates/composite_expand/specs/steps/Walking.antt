@@ -4,7 +4,8 @@ use Rattle.spl_tree.specs.declared.unit.Composite.{Composite}
 use Rattle.spl_tree.specs.declared.unit.Definition.{Definition}
 use Rattle.spl_tree.specs.declared.unit.Invocation.{Invocation}
 use Rattle.language_model.specs.Declarations.{first_of}
-use Rattle.language_model.specs.Expansion.{Made, Expanded, Opened, after, expanded, expanded_graph, if_grown, with_expansion}
+use Rattle.language_model.specs.Expansion.{Made, Expanded, Opened, after, expanded, expanded_graph}
+use Rattle.language_model.specs.parts.Expansion.{if_grown, with_expansion}
 use Rattle.language_model.specs.Invoking.{Body, target_of, undeclared, fits_head}
 use Rattle.language_model.specs.Scopes.{At}
 

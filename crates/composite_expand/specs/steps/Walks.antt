@@ -6,7 +6,8 @@ use Rattle.spl_tree.specs.declared.unit.Composite.{Composite}
 use Rattle.spl_tree.specs.declared.unit.Definition.{Definition}
 use Rattle.spl_tree.specs.declared.unit.Invocation.{Invocation}
 use Rattle.language_model.specs.Composites.{composites}
-use Rattle.language_model.specs.Expansion.{Made, Inlined, connections_of, expanded_main, is_within}
+use Rattle.language_model.specs.Expansion.{Made, Inlined, expanded_main}
+use Rattle.language_model.specs.parts.Expansion.{connections_of, is_within}
 use Rattle.language_model.specs.Invoking.{Target, Operator, Body, Nothing, target_of}
 use Rattle.language_model.specs.Recursion.{HasNoRecursion, composite_callers, calls_among}
 use Rattle.language_model.specs.Scopes.{At}

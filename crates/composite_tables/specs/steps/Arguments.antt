@@ -5,7 +5,7 @@ use Rattle.spl_tree.specs.declared.unit.Composite.{Composite}
 use Rattle.spl_tree.specs.declared.unit.Parameter.{Parameter}
 use Rattle.language_model.specs.Composites.{is_empty}
 use Rattle.language_model.specs.Declarations.{repeated_names}
-use Rattle.language_model.specs.Invoking.{is_argument}
+use Rattle.language_model.specs.parts.Invoking.{is_argument}
 use Rattle.program_tables.specs.declared.names.Names.{Names}
 use Rattle.program_tables.specs.Names.{HoldsNames}
 

@@ -1,7 +1,8 @@
 //! Connections, counted.
 ghost use Rattle.std.specs.Prelude.{◌≡◌, ◌≤◌, ◌<◌, ◌∷◌, ◌++◌, [], ℕ, List, false, IfOk, length, map};
 ghost use Rattle.spl_value.specs.declared.item.Item.TheVariants as I;
-ghost use Rattle.stream_model.specs.Operators.{Operator, ports, port_at};
+ghost use Rattle.stream_model.specs.Operators.{Operator, ports};
+ghost use Rattle.stream_model.specs.parts.Operators.{port_at};
 ghost use Rattle.stream_model.specs.PortEvents.{is_over};
 ghost use Rattle.stream_model.specs.Stream.{Event, came};
 ghost use Rattle.connection_counts.specs.Counting.{Closes, CountsOpen};

@@ -12,7 +12,8 @@ use Rattle.language_model.specs.Outcomes.{Outcome, Done, Faulted}
 use Rattle.language_model.specs.Statements.{Left}
 use Rattle.stream_model.specs.declared.reply.Reply.{Reply}
 use Rattle.stream_model.specs.declared.reply.Reply.TheVariants as R
-use Rattle.stream_model.specs.Customs.{handler, marker_env, tuple_env}
+use Rattle.stream_model.specs.Customs.{handler, marker_env}
+use Rattle.stream_model.specs.parts.Customs.{tuple_env}
 use Rattle.stream_model.specs.PathLaws.{fault_by}
 use Rattle.expr_eval.specs.Running.{BodyIsFit}
 use Rattle.port_reacts.specs.Bodies.{EndsBy}

@@ -2,7 +2,8 @@
 ghost use Rattle.std.specs.Prelude.{◌≡◌};
 ghost use Rattle.std.specs.Option.{option_copied};
 ghost use Rattle.spl_value.specs.declared.item.Item.TheVariants as I;
-ghost use Rattle.stream_model.specs.Customs.{handler, left_by, marker_env, tuple_env};
+ghost use Rattle.stream_model.specs.Customs.{handler, left_by, marker_env};
+ghost use Rattle.stream_model.specs.parts.Customs.{tuple_env};
 ghost use Rattle.custom_logic.specs.Idle.{idle_env};
 ghost use Rattle.custom_logic.specs.steps.Running.{HandledAs, LeavesIdle, MayRun};
 

@@ -3,7 +3,7 @@ use Rattle.std.specs.Prelude.{ℕ, suc, Bool, false, List, [], ◌∷◌, map, s
 use Rattle.std.specs.Option.{option_map_or}
 use Rattle.spl_tree.specs.declared.unit.CompositeParameter.{CompositeParameter}
 use Rattle.spl_tree.specs.declared.unit.Parameter.{Parameter}
-use Rattle.language_model.specs.Parameters.{default_leads}
+use Rattle.language_model.specs.parts.Parameters.{default_leads}
 
 -- the places that its default leads to
 abbrev pub rows_of : List CompositeParameter → List Parameter → List (List ℕ)

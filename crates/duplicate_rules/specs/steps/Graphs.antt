@@ -1,6 +1,7 @@
 -- The names of a composite's streams, aliases and ports, as the code has them.
 use Rattle.std.specs.Prelude.{◌≡◌, Bool, true, not, ◌||◌, List, [], ◌∷◌}
-use Rattle.language_model.specs.Declarations.{Name, Declared, OutputPort, InputPort, MadeStream, Alias, is_declared}
+use Rattle.language_model.specs.Declarations.{Name, Declared, OutputPort, InputPort, MadeStream, Alias}
+use Rattle.language_model.specs.parts.Declarations.{is_declared}
 use Rattle.duplicate_rules.specs.declared.declarations.graphs.GraphName.{GraphName}
 use Rattle.duplicate_rules.specs.declared.declarations.graphs.GraphName.TheVariants as G
 use Rattle.duplicate_rules.specs.declared.declarations.graphs.GraphNamesBefore.{GraphNamesBefore}

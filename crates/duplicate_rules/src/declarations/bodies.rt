@@ -1,7 +1,8 @@
 //! Names that repeat an earlier one within functions and the `logic` of operators.
 ghost use Rattle.std.specs.Prelude.{◌≡◌, IfOk};
 ghost use Rattle.std.specs.Option.{option_copied};
-ghost use Rattle.language_model.specs.Declarations.{definition_sets, logic_sets, variable_sets};
+ghost use Rattle.language_model.specs.Declarations.{definition_sets, logic_sets};
+ghost use Rattle.language_model.specs.parts.Declarations.{variable_sets};
 ghost use Rattle.duplicate_rules.specs.steps.Earliest.{earliest_in};
 
 use super::names::{Repeated, earliest_repeated};

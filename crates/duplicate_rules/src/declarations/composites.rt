@@ -1,7 +1,8 @@
 //! Names that repeat an earlier one within composites and other definitions.
-ghost use Rattle.std.specs.Prelude.{◌≡◌, ◌++◌, IfOk, flat_map};
-ghost use Rattle.std.specs.Option.{option_copied};
-ghost use Rattle.language_model.specs.Declarations.{definition_sets, first_of, port_sets, repeated_in_composite, repeated_in_definition, type_sets};
+ghost use Rattle.std.specs.Prelude.{◌≡◌, ◌++◌, [], IfOk, flat_map};
+ghost use Rattle.std.specs.Option.{option_copied, option_map_or};
+ghost use Rattle.language_model.specs.Declarations.{definition_sets, first_of, kind_sets, repeated_in_definition, type_sets};
+ghost use Rattle.language_model.specs.parts.Declarations.{repeated_in_composite};
 ghost use Rattle.duplicate_rules.specs.steps.Earliest.{earliest_in};
 
 use super::bodies::{earliest_in_function, earliest_in_logic};
@@ -40,9 +41,11 @@ pub(super) fn repeated_in_definition<'u>(alloc: Global, definition: &'u Definiti
 }
 
 impl Encloses for HeadPort {
-    ghost use Rattle.language_model.specs.Declarations.{port_sets};
+    ghost use Rattle.std.specs.Prelude.{[]};
+    ghost use Rattle.std.specs.Option.{option_map_or};
+    ghost use Rattle.language_model.specs.Declarations.{kind_sets};
 
-    ghost inner = { port_sets };
+    ghost inner = { λ port. option_map_or (λ shape. kind_sets shape.what) port.shape [] };
 
     fn earliest<'u>(&'u self, alloc: Global, best: Option<&'u Placed<Name>>) -> Repeated<'u> {
         match &self.shape {
@@ -63,9 +66,9 @@ impl Encloses for CompositeParameter {
 }
 
 impl Encloses for TypeDefinition {
-    ghost use Rattle.language_model.specs.Declarations.{shape_sets};
+    ghost use Rattle.language_model.specs.Declarations.{kind_sets};
 
-    ghost inner = { λ definition. shape_sets definition.shape };
+    ghost inner = { λ definition. kind_sets definition.shape.what };
 
     fn earliest<'u>(&'u self, alloc: Global, best: Option<&'u Placed<Name>>) -> Repeated<'u> {
         earliest_in_shape(alloc, best, &self.shape)
@@ -73,9 +76,9 @@ impl Encloses for TypeDefinition {
 }
 
 impl Encloses for OutputStream {
-    ghost use Rattle.language_model.specs.Declarations.{shape_sets};
+    ghost use Rattle.language_model.specs.Declarations.{kind_sets};
 
-    ghost inner = { λ stream. shape_sets stream.shape };
+    ghost inner = { λ stream. kind_sets stream.shape.what };
 
     fn earliest<'u>(&'u self, alloc: Global, best: Option<&'u Placed<Name>>) -> Repeated<'u> {
         earliest_in_shape(alloc, best, &self.shape)
@@ -105,7 +108,9 @@ fn earliest_in_head<'u>(
     composite: &'u Composite,
 ) -> Repeated<'u>
     ensures { IfOk result (λ found. option_copied found ≡ earliest_in (option_copied best.entry)
-        (flat_map port_sets composite.now.outputs ++ flat_map port_sets composite.now.inputs ++ flat_map (λ p. type_sets p.kind) composite.now.parameters)) }
+        (flat_map (λ port. option_map_or (λ shape. kind_sets shape.what) port.shape []) composite.now.outputs
+        ++ flat_map (λ port. option_map_or (λ shape. kind_sets shape.what) port.shape []) composite.now.inputs
+        ++ flat_map (λ p. type_sets p.kind) composite.now.parameters)) }
 {
     let found = earliest_within(alloc, best, composite.outputs.as_slice())?;
     let found = earliest_within(alloc, found, composite.inputs.as_slice())?;

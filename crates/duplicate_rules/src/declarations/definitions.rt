@@ -1,7 +1,8 @@
 //! Names that repeat an earlier one among the definitions of a unit.
 ghost use Rattle.std.specs.Prelude.{◌≡◌, [], IfOk, is_some};
 ghost use Rattle.std.specs.Option.{option_copied};
-ghost use Rattle.language_model.specs.Declarations.{definition_name, first_of, is_built_in, repeated_definitions};
+ghost use Rattle.language_model.specs.Declarations.{definition_name, first_of, is_built_in};
+ghost use Rattle.language_model.specs.parts.Declarations.{repeated_definitions};
 ghost use Rattle.language_model.specs.Typing.{call_of};
 ghost use Rattle.duplicate_rules.specs.steps.NamesBefore.{Hold};
 

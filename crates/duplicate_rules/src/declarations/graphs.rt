@@ -1,7 +1,8 @@
 //! Names of streams, aliases and ports that repeat an earlier one in a composite.
 ghost use Rattle.std.specs.Prelude.{◌≡◌, [], ◌++◌, List, IfOk, OnOk, map, flat_map, not};
 ghost use Rattle.std.specs.Option.{option_copied};
-ghost use Rattle.language_model.specs.Declarations.{Declared, first_of, declared_name, is_declared, repeated, stand_before, head_names, invocation_names, graph_names, InputPort, OutputPort, MadeStream};
+ghost use Rattle.language_model.specs.Declarations.{Declared, first_of, declared_name, repeated, stand_before, graph_names, InputPort, OutputPort, MadeStream};
+ghost use Rattle.language_model.specs.parts.Declarations.{is_declared, head_names, invocation_names};
 ghost use Rattle.duplicate_rules.specs.steps.Graphs.{Adds, AddsOther, AddsOutput, Stand, shown};
 
 use super::names::{NamesBefore, Repeated};

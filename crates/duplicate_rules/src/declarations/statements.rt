@@ -1,7 +1,8 @@
 //! Names that repeat an earlier one among the variables of blocks.
 ghost use Rattle.std.specs.Prelude.{◌≡◌, IfOk, flat_map};
 ghost use Rattle.std.specs.Option.{option_copied};
-ghost use Rattle.language_model.specs.Declarations.{block_sets, statement_scoped};
+ghost use Rattle.language_model.specs.Declarations.{block_sets};
+ghost use Rattle.language_model.specs.parts.Declarations.{statement_scoped};
 ghost use Rattle.duplicate_rules.specs.steps.Earliest.{earliest_in};
 
 use super::names::{Declares, Repeated, earliest_repeated};

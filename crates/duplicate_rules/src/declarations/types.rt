@@ -1,7 +1,8 @@
 //! Names that repeat an earlier one among the attributes of types.
 ghost use Rattle.std.specs.Prelude.{◌≡◌, IfOk};
 ghost use Rattle.std.specs.Option.{option_copied};
-ghost use Rattle.language_model.specs.Declarations.{type_sets, attribute_sets, shape_sets};
+ghost use Rattle.language_model.specs.Declarations.{type_sets, attribute_sets};
+ghost use Rattle.language_model.specs.parts.Declarations.{shape_sets};
 ghost use Rattle.duplicate_rules.specs.steps.Earliest.{earliest_in};
 
 use super::names::{Repeated, earliest_repeated};

@@ -1,14 +1,13 @@
 use Rattle.expr_eval.proofs.Binary.{and_left, left_is_fit, on_left, or_left, right_is_fit}
 use Rattle.expr_eval.proofs.BuiltIns.{are_three, are_two, called_stopped, called_stops, first_of_three_stops, first_of_two_stops, is_one, one_to_three, one_value, second_of_three_stops, three_values, two_values, with_one, with_three, with_two}
-use Rattle.expr_eval.proofs.CodeParts.{built_in_is_fit, call_is_fit, conditional_parts, has_marker, has_other_marker, has_slot, list_is_fit, map_is_fit, select_parts, tuple_is_fit, unary_parts}
+use Rattle.expr_eval.proofs.CodeParts.{built_in_is_fit, call_is_fit, conditional_parts, has_marker, has_other_marker, has_slot, list_is_fit, map_is_fit, select_parts, tuple_is_fit, unary_parts, field_places}
 use Rattle.value_operations.proofs.Following.{answers_by, answers_held_by, followed_stops, stops, stops_by, stops_held}
 use Rattle.expr_eval.proofs.PlacedFields.{placed_done, placed_on, placed_start, placed_stops}
 use Rattle.std.proofs.lemmas.List.{length-set}
-use Rattle.std.proofs.Common.{ℕ}
-use Rattle.expr_eval.specs.Running.{StatementIsFit}
-use Rattle.language_model.specs.Statements.{statement_acts}
-use Rattle.expr_eval.proofs.CodeParts.{field_places}
-use Rattle.expr_eval.proofs.ValueTypes.{as_long}
+use Rattle.std.proofs.Common.{ℕ, [], ap, arith, length, refl, subst, sym, ◌≡◌, ◌<◌, ◌∙◌}
+use Rattle.expr_eval.specs.Running.{StatementIsFit, Leads, OverIsFit, RowIsFit, state}
+use Rattle.language_model.specs.parts.Statements.{statement_acts, row_acts, step_values}
+use Rattle.expr_eval.proofs.ValueTypes.{as_long, binary_of_operands, built_in_of_arguments, call_of_arguments, of_type, places_of_fields, takings_of_base, unaries_of_operand}
 use Rattle.expr_eval.proofs.Keeping.{keeps_all, keeps_declared, keeps_ended, keeps_then, vars_ended}
 use Rattle.expr_eval.proofs.Leading.{leads_by, scoped_leads, stops_leading}
 use Rattle.expr_eval.proofs.Forms.{arguments_stop, binary_answers, built_in_answers, call_answers, conditional_stops, first_answers, list_answers, literal_done, map_answers, marker_done, name_answers, other_marker_done, second_answers, select_comes, select_stops, tuple_answers, unary_answers, unary_stops}
@@ -16,12 +15,9 @@ use Rattle.expr_eval.proofs.LoopParts.{arm_passed, arm_taken, arms_stop, led_to,
 use Rattle.expr_eval.proofs.RowParts.{condition_of_arm, loop_after_turn, other_arms, other_turns, rest_of_row, row_of_arm, row_of_turn, statement_is_fit, turn_is_fit}
 use Rattle.expr_eval.proofs.Rows.{pairs_on, pairs_past, pairs_start, pairs_stop_at_key, pairs_stop_at_value, takings_on, takings_past, takings_stop, values_on, values_past, values_start, values_stop}
 use Rattle.expr_eval.proofs.StepParts.{first_is_fit, has_elements, has_keys, has_member, index_is_fit, key_is_fit, others_are_fit}
-use Rattle.expr_eval.proofs.ValueTypes.{binary_of_operands, built_in_of_arguments, call_of_arguments, of_type, places_of_fields, takings_of_base, unaries_of_operand}
 use Rattle.value_operations.specs.Answers.{Answers, AnswersHeld, held}
 use Rattle.expr_eval.specs.Fitting.{IsFit}
-use Rattle.expr_eval.specs.Running.{Leads, OverIsFit, RowIsFit, state}
 use Rattle.spl_value.specs.Pairs.{are_pairs}
-use Rattle.std.proofs.Common.{[], ap, arith, length, refl, subst, sym, ◌≡◌, ◌<◌, ◌∙◌}
 use Rattle.std.proofs.lemmas.Option.{slice_get_read}
 use Rattle.std.specs.Prelude.{None, Ok, take}
 use Rattle.value_operations.specs.declared.held.Held.TheVariants as O
@@ -30,10 +26,11 @@ use Rattle.language_model.specs.declared.env.Env.{Env}
 use Rattle.expr_eval.specs.steps.Keeping.{Keeps}
 use Rattle.language_model.specs.Evaluation.{code_value, taken, world_of}
 use Rattle.language_model.specs.EvaluationLaws.{taking_meaning}
-use Rattle.language_model.specs.Functions.{bodies_of, calls_of}
+use Rattle.language_model.specs.Functions.{bodies_of}
+use Rattle.language_model.specs.parts.Functions.{calls_of}
 use Rattle.language_model.specs.Outcomes.{Done, enter, followed}
 use Rattle.spl_value.specs.declared.value.Value.TheVariants as V
-use Rattle.language_model.specs.Statements.{Acts, declared, row_acts, scoped, turns_over}
+use Rattle.language_model.specs.Statements.{Acts, declared, scoped, turns_over, change_values, step_value}
 use Rattle.spl_tree.specs.declared.code.Code.TheVariants as C
 use Rattle.spl_tree.specs.declared.body.Statement.TheVariants as S
 use Rattle.expr_eval.proofs.StatementForms.{arguments_stopped, change_leads, declare_leads, evaluate_leads, function_leads, if_leads, return_leads, submit_leads, submit_window_leads, while_leads}
@@ -43,7 +40,6 @@ use Rattle.expr_eval.proofs.Calling.{answer_returns, call_body_is_fit, call_retu
 use Rattle.expr_eval.proofs.Answering.{no_call, no_turn_begins}
 use Rattle.expr_eval.proofs.PlaceChanges.{append_answers, append_stops, can_change, clear_answers, leads_next_by, place_changes, put_answers, put_stops, remove_answers, remove_stops, steps_begin, taken_begins, variable_holds}
 use Rattle.expr_eval.proofs.StepValues.{first_step_is_fit, later_steps_are_fit, next_step_is_fit, others_fit, step_fits, steps_on, steps_past, steps_start, steps_stop, taken_on, taken_past, taken_stop}
-use Rattle.language_model.specs.Statements.{change_values, step_value, step_values}
 use Rattle.expr_eval.proofs.+eval.Goals as goal
 
 pub evaluate::eval_at-slot_value-requires : goal.evaluate::eval_at-slot_value-requires

@@ -4,22 +4,22 @@ use Rattle.value_operations.specs.Answers.{held}
 use Rattle.expr_eval.specs.Fitting.{FitTakings}
 use Rattle.spl_value.specs.Pairs.{are_pairs}
 use Rattle.std.proofs.Common.{drop, length, ◌*◌, ◌+◌, ◌≡◌}
-use Rattle.std.specs.Prelude.{IsTrue}
-use Rattle.language_model.specs.Evaluation.{code_value, map_of, world_of}
+use Rattle.std.specs.Prelude.{IsTrue, [], Some, slice_get}
+use Rattle.language_model.specs.Evaluation.{code_value, world_of}
+use Rattle.language_model.specs.parts.Evaluation.{map_of}
 use Rattle.spl_tree.specs.declared.code.Code.TheVariants as C
-use Rattle.language_model.specs.Functions.{bodies_of, calls_of}
+use Rattle.language_model.specs.Functions.{bodies_of}
+use Rattle.language_model.specs.parts.Functions.{calls_of}
 use Rattle.language_model.specs.EvaluationLaws.{pair_values, values_of}
 use Rattle.language_model.specs.Outcomes.{Done, followed}
-use Rattle.language_model.specs.Statements.{step_values, steps_taken}
+use Rattle.language_model.specs.Statements.{steps_taken, turns_over}
+use Rattle.language_model.specs.parts.Statements.{step_values, row_acts}
 use Rattle.expr_eval.proofs.StepValues.{steps_from, taken_from, StepsFrom}
-use Rattle.expr_eval.specs.Running.{StepsAreFit, state}
+use Rattle.expr_eval.specs.Running.{StepsAreFit, state, RowIsFit, ArmsAreFit, LoopIsFit, OverIsFit}
 use Rattle.expr_eval.specs.steps.Keeping.{Keeps}
 use Rattle.spl_value.specs.declared.value.Value.{Value}
-use Rattle.std.specs.Prelude.{[], Some, slice_get}
-use Rattle.language_model.specs.Statements.{row_acts, turns_over}
 use Rattle.language_model.specs.StatementLaws.{arms_act}
 use Rattle.expr_eval.proofs.LoopParts.{while_from}
-use Rattle.expr_eval.specs.Running.{RowIsFit, ArmsAreFit, LoopIsFit, OverIsFit}
 use Rattle.expr_eval.proofs.+eval.Given as goal
 
 -- each code and each statement that is entered takes one of the room, so that the room falls

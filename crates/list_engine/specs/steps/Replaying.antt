@@ -6,7 +6,8 @@ use Rattle.stream_model.specs.Arrivals.{entries_in}
 use Rattle.stream_model.specs.Inputs.{inputs_of}
 use Rattle.stream_model.specs.Meaning.{Lists, arrive}
 use Rattle.stream_model.specs.Operators.{Operator}
-use Rattle.stream_model.specs.Records.{is_whole, names_inputs}
+use Rattle.stream_model.specs.Records.{is_whole}
+use Rattle.stream_model.specs.parts.Records.{names_inputs}
 use Rattle.stream_model.specs.Stream.{Event, came}
 use Rattle.list_engine.specs.declared.operator.Given.{Given}
 use Rattle.list_engine.specs.declared.run_order.Order.{Order}

@@ -5,7 +5,8 @@ use Rattle.spl_value.specs.declared.item.Item.{Item}
 use Rattle.language_model.specs.CheckedGraph.{CheckedGraph}
 use Rattle.stream_model.specs.Arrivals.{has_several}
 use Rattle.stream_model.specs.CheckedMeaning.{graph_of, schema_at}
-use Rattle.stream_model.specs.Ends.{is_read, operator_fault}
+use Rattle.stream_model.specs.Ends.{is_read}
+use Rattle.stream_model.specs.parts.Ends.{operator_fault}
 use Rattle.stream_model.specs.Laws.{is_made}
 use Rattle.stream_model.specs.Meaning.{Graph, Entries, Meaning, lists_at, meaning}
 use Rattle.stream_model.specs.Operators.{Operator, connections}

@@ -6,7 +6,8 @@ use Rattle.spl_value.specs.declared.item.Item.TheVariants as I
 use Rattle.language_model.specs.declared.outs.Output.{Output}
 use Rattle.stream_model.specs.Stream.{Event, came, is_closed, TuplesFit}
 use Rattle.stream_model.specs.Inputs.{inputs_of, came_on}
-use Rattle.stream_model.specs.Operators.{Operator, ports, port_at, input_attributes}
+use Rattle.stream_model.specs.Operators.{Operator, ports, input_attributes}
+use Rattle.stream_model.specs.parts.Operators.{port_at}
 use Rattle.stream_model.specs.React.{ended}
 use Rattle.stream_model.specs.Replies.{end_by, given_attributes}
 use Rattle.stream_model.specs.Stages.{on_port, out}

@@ -4,7 +4,7 @@ ghost use Rattle.spl_value.specs.declared.item.Item.TheVariants as I;
 ghost use Rattle.language_model.specs.declared.checked.CheckedClauses.{CheckedClauses};
 ghost use Rattle.stream_model.specs.Bodies.{on_each};
 ghost use Rattle.stream_model.specs.CheckedMeaning.{graph_of};
-ghost use Rattle.stream_model.specs.Operators.{port_at};
+ghost use Rattle.stream_model.specs.parts.Operators.{port_at};
 ghost use Rattle.stream_model.specs.Replies.{IsTaken, MayTake, Replies};
 ghost use Rattle.stream_model.specs.Stream.{Event, came};
 ghost use Rattle.op_kit.specs.Kinds.{is_held};

@@ -1,7 +1,7 @@
 //! The calls of a FileSink.
 ghost use Rattle.std.specs.Prelude.{◌≡◌, ◌<◌, [], ℕ, List, Some, length, slice_get};
 ghost use Rattle.language_model.specs.declared.checked.CheckedClauses.TheVariants as A;
-ghost use Rattle.stream_model.specs.Bodies.{sink_body};
+ghost use Rattle.stream_model.specs.parts.Bodies.{sink_body};
 ghost use Rattle.stream_model.specs.CheckedMeaning.{graph_of, operator_with};
 ghost use Rattle.stream_model.specs.React.{answer};
 ghost use Rattle.port_reacts.specs.Bodies.{RepliesToItem};

@@ -8,7 +8,8 @@ use Rattle.spl_value.specs.contracts.types.Named as named
 use Rattle.spl_value.specs.contracts.types.SplType as row
 use Rattle.spl_value.specs.declared.types.Named.{Named}
 use Rattle.spl_value.specs.declared.types.SplType.{SplType}
-use Rattle.language_model.specs.Scopes.{PortAttribute, attribute_of, first_from, in_port}
+use Rattle.language_model.specs.Scopes.{PortAttribute, attribute_of, first_from}
+use Rattle.language_model.specs.parts.Scopes.{in_port}
 
 abbrev pub same_bytes : Bor (List ℕ) → Bor (List ℕ) → Bool
 same_bytes x y = bytes_eq x.now y.now

@@ -1,6 +1,7 @@
 //! Attributes of an output with what they get, whatever that is.
 ghost use Rattle.std.specs.Prelude.{◌≡◌, ◌<◌, ℕ, List, [], length, IfOk, slice_set, true};
-ghost use Rattle.language_model.specs.OutputTyping.{assignment_typing, assignments_typing, places, rows_typing, with_others};
+ghost use Rattle.language_model.specs.OutputTyping.{assignment_typing, assignments_typing, rows_typing, with_others};
+ghost use Rattle.language_model.specs.parts.OutputTyping.{places};
 ghost use Rattle.language_model.specs.Typing.{after};
 ghost use Rattle.language_model.specs.Finds.{Finds, with_front};
 ghost use Rattle.output_rules.specs.steps.Marking.{Tells};

@@ -3,7 +3,8 @@ ghost use Rattle.std.specs.Prelude.{◌≡◌, IfOk, Some};
 ghost use Rattle.std.specs.Option.{option_copied, option_map};
 ghost use Rattle.spl_value.specs.declared.types.SplType.TheViews.{out-SplType};
 ghost use Rattle.spl_tree.specs.declared.expression.ExprKind.TheViews.{out-ExprKind};
-ghost use Rattle.language_model.specs.OutputTyping.{assigned_group, called_typing, collected, collecting_of, groups_typing, last_of, level_gathered, level_gathers, of_wanted};
+ghost use Rattle.language_model.specs.OutputTyping.{assigned_group, called_typing, collecting_of, groups_typing, level_gathered, level_gathers};
+ghost use Rattle.language_model.specs.parts.OutputTyping.{collected, last_of, of_wanted};
 ghost use Rattle.language_model.specs.Finds.{Finds};
 ghost use Rattle.output_rules.specs.steps.Collecting.{collecting_meant, collector_on, counted};
 

@@ -1,6 +1,7 @@
 //! Outputs of one tuple.
 ghost use Rattle.std.specs.Option.{option_copied};
-ghost use Rattle.language_model.specs.OutputTyping.{assigned_code, taken_over, tuple_typing};
+ghost use Rattle.language_model.specs.OutputTyping.{taken_over, tuple_typing};
+ghost use Rattle.language_model.specs.parts.OutputTyping.{assigned_code};
 ghost use Rattle.language_model.specs.Finds.{Finds};
 
 use super::assigned::{Gives, all_given};

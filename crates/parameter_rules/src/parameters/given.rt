@@ -2,7 +2,7 @@
 //! are read.
 ghost use Rattle.std.specs.Prelude.{◌≡◌, codes};
 ghost use Rattle.std.specs.Option.{option_copied};
-ghost use Rattle.language_model.specs.Checking.{code_given, file_given, places_given, position_given, strict_given};
+ghost use Rattle.language_model.specs.parts.Checking.{code_given, file_given, places_given, position_given, strict_given};
 ghost use Rattle.language_model.specs.ParameterTyping.{value_given};
 ghost use Rattle.parameter_rules.specs.Taking.{KeepsOthers, without_first};
 ghost use Rattle.parameter_rules.specs.steps.Firsts.{IsFirst};

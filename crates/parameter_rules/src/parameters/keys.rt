@@ -2,7 +2,8 @@
 ghost use Rattle.std.specs.Prelude.{◌≡◌, ◌==◌, [], reverse};
 ghost use Rattle.std.specs.List.{list_any};
 ghost use Rattle.spl_value.specs.declared.types.SplType.TheViews.{out-SplType};
-ghost use Rattle.language_model.specs.ParameterTyping.{first_schema, key_of, keys_typing, level_key, some_keys, word_of};
+ghost use Rattle.language_model.specs.ParameterTyping.{key_of, keys_typing};
+ghost use Rattle.language_model.specs.parts.ParameterTyping.{first_schema, level_key, some_keys, word_of};
 ghost use Rattle.language_model.specs.Finds.{Finds};
 
 use super::values::word_of;

@@ -4,7 +4,8 @@ ghost use Rattle.std.specs.List.{list_any};
 ghost use Rattle.std.specs.Option.{option_copied};
 ghost use Rattle.std.specs.Str.{bytes_eq};
 ghost use Rattle.language_model.specs.Kinds.{is_had, is_needed, parameter_seen};
-ghost use Rattle.language_model.specs.ParameterTyping.{missing, needed, needed_among, role_among, role_of};
+ghost use Rattle.language_model.specs.ParameterTyping.{missing, needed, role_of};
+ghost use Rattle.language_model.specs.parts.ParameterTyping.{needed_among, role_among};
 
 use language_model::{Given, ParameterRule, Presence, Role};
 use operator_kinds::rules_of;

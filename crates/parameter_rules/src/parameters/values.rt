@@ -2,7 +2,8 @@
 ghost use Rattle.std.specs.Prelude.{◌≡◌};
 ghost use Rattle.std.specs.Option.{option_copied};
 ghost use Rattle.spl_value.specs.declared.types.SplType.TheViews.{out-SplType};
-ghost use Rattle.language_model.specs.ParameterTyping.{format_of, level_index, one_value, parsing_of, position_of, single_value, value_typing, word_of};
+ghost use Rattle.language_model.specs.ParameterTyping.{level_index, one_value, single_value, value_typing};
+ghost use Rattle.language_model.specs.parts.ParameterTyping.{format_of, parsing_of, position_of, word_of};
 ghost use Rattle.language_model.specs.Finds.{Finds};
 ghost use Rattle.language_model.specs.Typing.{Found, after, mismatch};
 ghost use Rattle.literal_sites.specs.Sites.{site_seen};

@@ -11,7 +11,8 @@ use Rattle.spl_tree.specs.declared.unit.Logic.{Logic}
 use Rattle.spl_tree.specs.declared.unit.OutputAssignments.{OutputAssignments}
 use Rattle.spl_tree.specs.declared.unit.PortWindow.{PortWindow}
 use Rattle.spl_tree.specs.Trees.{Expr, Stmt}
-use Rattle.language_model.specs.Mentions.{Mentions, expr_mentions, statement_mentions, block_mentions, logic_mentions, window_mentions, assignment_mentions}
+use Rattle.language_model.specs.Mentions.{Mentions, expr_mentions, block_mentions, logic_mentions}
+use Rattle.language_model.specs.parts.Mentions.{statement_mentions, window_mentions, assignment_mentions}
 use Rattle.program_tables.specs.declared.mentions.Mention.{Mention}
 use Rattle.program_tables.specs.Mentioned.{mentions_seen}
 

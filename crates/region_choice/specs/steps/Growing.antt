@@ -8,7 +8,8 @@ use Rattle.stream_model.specs.declared.plan.Merge.TheVariants as M
 use Rattle.stream_model.specs.declared.plan.Region.{Region}
 use Rattle.stream_model.specs.Meaning.{Graph}
 use Rattle.stream_model.specs.Operators.{Operator}
-use Rattle.stream_model.specs.Regions.{any_keyed, chain_key, is_one_each, ops_of}
+use Rattle.stream_model.specs.Regions.{any_keyed, chain_key, ops_of}
+use Rattle.stream_model.specs.parts.Regions.{is_one_each}
 use Rattle.region_choice.specs.declared.growing.Growing.{Growing}
 use Rattle.region_choice.specs.declared.keys.KeySource.{KeySource}
 use Rattle.region_choice.specs.steps.GraphChains.{has_key}

@@ -1,7 +1,7 @@
 -- What the keys of an operator are copies of.
 use Rattle.std.specs.Prelude.{ℕ, ◌==◌, Bool, List, [], ◌∷◌, Option, None, Some, if◌then◌else◌}
 use Rattle.std.specs.List.{list_any}
-use Rattle.stream_model.specs.Regions.{is_it}
+use Rattle.stream_model.specs.parts.Regions.{is_it}
 use Rattle.region_choice.specs.declared.keys.KeySource.{KeySource}
 
 -- the attribute of which the key at this place is a copy

@@ -5,7 +5,7 @@ use Rattle.csv.specs.Reading.{default_config, is_bom}
 use Rattle.csv.specs.declared.parser.State.TheVariants as st
 use Rattle.spl_value.specs.declared.types.SplType.{SplType}
 use Rattle.spl_value.specs.declared.value.Value.{Value}
-use Rattle.stream_model.specs.Fields.{field_value}
+use Rattle.stream_model.specs.parts.Fields.{field_value}
 use Rattle.stream_model.specs.Rows as R
 use Rattle.row_reader.specs.declared.marked.LineGives.{LineGives}
 use Rattle.row_reader.specs.declared.marked.LineGives.TheVariants as G

@@ -5,7 +5,8 @@ use Rattle.spl_tree.specs.declared.body.Statement.TheFolds.{fold-Statement}
 use Rattle.spl_tree.specs.declared.code.Code.{Code}
 use Rattle.spl_tree.specs.declared.code.Marker.{Marker}
 use Rattle.spl_tree.specs.declared.code.Slot.{Slot}
-use Rattle.stream_model.specs.Selectivity.{Interval, chosen, decided, level_interval, row_interval}
+use Rattle.stream_model.specs.Selectivity.{Interval, chosen, level_interval, row_interval}
+use Rattle.stream_model.specs.parts.Selectivity.{decided}
 
 -- of a statement where this marker came, or none
 abbrev pub statement_interval : Option Marker → Statement → Interval

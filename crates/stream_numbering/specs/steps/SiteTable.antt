@@ -8,7 +8,8 @@ use Rattle.spl_tree.specs.declared.unit.Definition.{Definition}
 use Rattle.language_model.specs.declared.expansion.Operation.{Operation}
 use Rattle.language_model.specs.Composites.{composites}
 use Rattle.language_model.specs.Expansion.{source}
-use Rattle.language_model.specs.Numbering.{is_site, site_at, output_place, graph_outputs}
+use Rattle.language_model.specs.Numbering.{is_site, site_at, output_place}
+use Rattle.language_model.specs.parts.Numbering.{graph_outputs}
 use Rattle.composite_tables.specs.declared.made.Body.{Body}
 use Rattle.stream_numbering.specs.declared.sites.Sites.{Sites}
 use Rattle.stream_numbering.specs.steps.StreamTable.{Table, stream_in}

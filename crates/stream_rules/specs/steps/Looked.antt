@@ -4,7 +4,8 @@ use Rattle.std.specs.HashSet.{contains}
 use Rattle.spl_tree.specs.declared.graph.Graph.{Graph}
 use Rattle.spl_tree.specs.declared.graph.Site.{Site}
 use Rattle.spl_tree.specs.declared.unit.Definition.{Definition}
-use Rattle.language_model.specs.StreamTypes.{Attributes, input_heads, invoked_input, passed}
+use Rattle.language_model.specs.StreamTypes.{Attributes, input_heads, passed}
+use Rattle.language_model.specs.parts.StreamTypes.{invoked_input}
 use Rattle.stream_rules.specs.declared.ports.inputs.heads.Looked.{Looked}
 
 abbrev pub same_port : ℕ × ℕ × ℕ × ℕ → ℕ × ℕ × ℕ × ℕ → Bool

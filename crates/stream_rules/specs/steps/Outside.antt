@@ -5,7 +5,8 @@ use Rattle.spl_tree.specs.declared.graph.Graph.{Graph}
 use Rattle.spl_tree.specs.declared.unit.Definition.{Definition}
 use Rattle.spl_tree.specs.declared.unit.OutputStream.{OutputStream}
 use Rattle.language_model.specs.Expansion.{place_of}
-use Rattle.language_model.specs.StreamTypes.{Attributes, Body, Passes, head_output, outer_output, output_heads, output_names, passed, stream_attributes}
+use Rattle.language_model.specs.StreamTypes.{Attributes, Body, Passes, output_heads, passed, stream_attributes}
+use Rattle.language_model.specs.parts.StreamTypes.{head_output, outer_output, output_names}
 use Rattle.language_model.specs.Typing.{Found, after}
 use Rattle.language_model.specs.declared.answer.TypeAnswer.{TypeAnswer}
 use Rattle.language_model.specs.declared.answer.TypeAnswer.TheVariants.{Refused, Memory}

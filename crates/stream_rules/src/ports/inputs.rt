@@ -1,6 +1,7 @@
 //! Inputs of operators, and what the heads around them say.
 ghost use Rattle.std.specs.Prelude.{◌≡◌, ◌<◌, ◌≤◌, length};
-ghost use Rattle.language_model.specs.StreamTypes.{are_alike, name_places, port_attributes, ports_attributes, so_often, taken_by};
+ghost use Rattle.language_model.specs.StreamTypes.{are_alike, name_places, port_attributes, ports_attributes, taken_by};
+ghost use Rattle.language_model.specs.parts.StreamTypes.{so_often};
 ghost use Rattle.language_model.specs.Expansion.{place_of};
 ghost use Rattle.language_model.specs.Invoking.{stream_names};
 ghost use Rattle.language_model.specs.Finds.{Finds};

@@ -1,6 +1,7 @@
 //! Outputs of operators, and what the heads around them say.
 ghost use Rattle.std.specs.Prelude.{◌≡◌, length};
-ghost use Rattle.language_model.specs.StreamTypes.{outer_output, output_heads, outputs_attributes};
+ghost use Rattle.language_model.specs.StreamTypes.{output_heads, outputs_attributes};
+ghost use Rattle.language_model.specs.parts.StreamTypes.{outer_output};
 ghost use Rattle.language_model.specs.Finds.{Finds};
 ghost use Rattle.body_sites.specs.Bodies.{body_seen};
 ghost use Rattle.stream_rules.specs.steps.Outside.{StandsOutside, output_found};

@@ -1,7 +1,8 @@
 //! What shapes in bodies mean, among the streams of a graph.
 ghost use Rattle.std.specs.Prelude.{◌≡◌};
 ghost use Rattle.std.specs.Option.{option_copied};
-ghost use Rattle.language_model.specs.StreamTypes.{port_matches, shape_attributes, shape_matches, stream_attributes};
+ghost use Rattle.language_model.specs.StreamTypes.{shape_attributes, shape_matches, stream_attributes};
+ghost use Rattle.language_model.specs.parts.StreamTypes.{port_matches};
 ghost use Rattle.language_model.specs.Finds.{Finds};
 ghost use Rattle.stream_rules.specs.steps.Among.{Hold, graph_of, unit_of};
 ghost use Rattle.body_sites.specs.Bodies.{body_seen};

@@ -4,7 +4,7 @@ use Rattle.std.specs.Borrow.{Bor}
 use Rattle.std.specs.Global.{Vec}
 use Rattle.std.specs.HashMap.{HashMap, get}
 use Rattle.spl_value.specs.declared.value.Value.{Value}
-use Rattle.stream_model.specs.Groups.{of_group}
+use Rattle.stream_model.specs.parts.Groups.{of_group}
 use Rattle.tuple_groups.specs.Seen.{seen}
 use Rattle.key_maps.specs.MapKeys.{equal_key}
 

@@ -12,7 +12,8 @@ use Rattle.spl_tree.specs.declared.body.Change.{Change}
 use Rattle.spl_tree.specs.declared.code.Selector.{Selector}
 use Rattle.language_model.specs.declared.env.Env.{Env}
 use Rattle.language_model.specs.Changes.{level_index}
-use Rattle.language_model.specs.Operators.{level_element, found}
+use Rattle.language_model.specs.Operators.{level_element}
+use Rattle.language_model.specs.parts.Operators.{found}
 use Rattle.value_operations.specs.Changing.{CanChange}
 
 -- the variable can be changed so

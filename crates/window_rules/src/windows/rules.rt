@@ -2,7 +2,8 @@
 ghost use Rattle.std.specs.Prelude.{◌≡◌, None};
 ghost use Rattle.language_model.specs.declared.answer.TypeAnswer.TheVariants.{Refused};
 ghost use Rattle.language_model.specs.declared.scope.CheckError.TheVariants as E;
-ghost use Rattle.language_model.specs.Policies.{aggregate_rule, are_no_arguments, bad_window, is_word, join_rule, measured, nothing_behind, punctuated, sliding_alone, sliding_with_trigger, trigger, tumbling};
+ghost use Rattle.language_model.specs.Policies.{aggregate_rule, are_no_arguments, bad_window, is_word, join_rule, measured, nothing_follows, punctuated, sliding_with_trigger, tumbling};
+ghost use Rattle.language_model.specs.parts.Policies.{sliding_alone, trigger};
 ghost use Rattle.language_model.specs.Finds.{Finds};
 ghost use Rattle.literal_sites.specs.Sites.{numbers_at};
 ghost use Rattle.window_rules.specs.steps.Windows.{counted, differing, slides_by, tumbles_by};
@@ -118,7 +119,7 @@ fn has_no_arguments(part: &WindowPart) -> bool
 
 /// The value, where no other part comes after its own.
 fn last<T: Copy>(value: T, rest: &[WindowPart]) -> Result<T, TypeAnswer>
-    ensures { Finds (nothing_behind value rest.now) result }
+    ensures { Finds (nothing_follows value rest.now) result }
 {
     match rest.first() {
         Some(part) => Err(bad_window(part.name.at)),

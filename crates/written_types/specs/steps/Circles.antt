@@ -4,7 +4,7 @@ use Rattle.std.specs.Borrow.{Bor}
 use Rattle.spl_tree.specs.declared.unit.TypeDefinition.{TypeDefinition}
 use Rattle.language_model.specs.Leading.{leads_back}
 use Rattle.language_model.specs.Scopes.{At}
-use Rattle.language_model.specs.TypeNames.{is_circular}
+use Rattle.language_model.specs.parts.TypeNames.{is_circular}
 use Rattle.written_types.specs.Circles.{Tells}
 use Rattle.written_types.specs.Stepping.{steps_from}
 

@@ -5,7 +5,8 @@ use Rattle.std.specs.Option.{option_map}
 use Rattle.std.specs.Str.{bytes_eq}
 use Rattle.spl_tree.specs.declared.unit.TypeDefinition.{TypeDefinition}
 use Rattle.language_model.specs.Scopes.{first_from}
-use Rattle.language_model.specs.TypeNames.{Names, definition_of, shape_names}
+use Rattle.language_model.specs.TypeNames.{definition_of}
+use Rattle.language_model.specs.parts.TypeNames.{Names, shape_names}
 
 abbrev pub same_bytes : Bor (List ℕ) → Bor (List ℕ) → Bool
 same_bytes x y = bytes_eq x.now y.now

@@ -1,5 +1,5 @@
 use Rattle.std.proofs.Common.{ap, ◌∙◌, ◌++◌, append_assoc}
-use Rattle.stream_model.specs.Aggregates.{marker_after}
+use Rattle.stream_model.specs.parts.Aggregates.{marker_after}
 use Rattle.stream_model.specs.Groups.{groups}
 use Rattle.tuple_groups.specs.Seen.{seen}
 use Rattle.aggregate_op.specs.steps.Giving.{groups_given}

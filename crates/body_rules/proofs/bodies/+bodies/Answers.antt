@@ -2,7 +2,8 @@ use Rattle.std.proofs.Common.{◌∙◌, ◌+◌, ◌∷◌, ◌++◌, [], Ok, E
 use Rattle.spl_tree.specs.declared.body.Statement.TheVariants as T
 use Rattle.spl_tree.specs.declared.statement.StmtKind.TheVariants as V
 use Rattle.language_model.specs.BodyFits.{with_variable}
-use Rattle.language_model.specs.BodyTyping.{alone, assigned, for_typing, other_typing, over_typing, return_typing, stated, submit_typing, variable}
+use Rattle.language_model.specs.BodyTyping.{alone, return_typing, submit_typing, variable}
+use Rattle.language_model.specs.parts.BodyTyping.{assigned, for_typing, other_typing, over_typing, stated}
 use Rattle.language_model.specs.BodyTypingLaws.{arms_stated, other_stated, row_stated}
 use Rattle.language_model.proofs.BodyTypingLaws.{assign_stated, block_stated, call_stated, declare_stated, for_stated, if_stated, kind_stated, return_stated, submit_stated, while_stated}
 use Rattle.language_model.specs.StatementTyping.{call_typing}

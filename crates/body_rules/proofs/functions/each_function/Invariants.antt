@@ -1,6 +1,7 @@
 use Rattle.std.proofs.Common.{◌≡◌, drop}
 use Rattle.language_model.specs.Composites.{functions}
-use Rattle.language_model.specs.FunctionTyping.{each_typed, unit_scope}
+use Rattle.language_model.specs.FunctionTyping.{unit_scope}
+use Rattle.language_model.proofs.parts.FunctionTyping.{each_typed}
 use Rattle.language_model.specs.Finds.{with_front}
 use Rattle.body_rules.proofs.functions.each_function.Given as goal
 

@@ -1,5 +1,5 @@
 use Rattle.std.proofs.Common.{◌≡◌}
-use Rattle.language_model.specs.FunctionTyping.{kinds}
+use Rattle.language_model.specs.parts.FunctionTyping.{kinds}
 use Rattle.body_rules.proofs.functions.kinds.Given as goal
 
 abbrev pub invariant-loop-attribute : goal.invariant-loop-attribute

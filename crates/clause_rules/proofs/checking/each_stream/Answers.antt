@@ -1,5 +1,5 @@
 use Rattle.std.proofs.Common.{ap, sym, ◌∙◌}
-use Rattle.language_model.specs.Checking.{each_stream}
+use Rattle.language_model.specs.parts.Checking.{each_stream}
 use Rattle.language_model.specs.Numbering.{numbers_from}
 use Rattle.clause_rules.proofs.Streams.{stream_found, stream_stops}
 use Rattle.clause_rules.proofs.checking.each_stream.Goals as goal

@@ -1,5 +1,5 @@
 use Rattle.std.proofs.Common.{◌≡◌, ◌-◌}
-use Rattle.language_model.specs.Checking.{each_stream}
+use Rattle.language_model.specs.parts.Checking.{each_stream}
 use Rattle.language_model.specs.Numbering.{numbers_from}
 use Rattle.language_model.specs.Finds.{with_front}
 use Rattle.clause_rules.proofs.checking.each_stream.Given as goal

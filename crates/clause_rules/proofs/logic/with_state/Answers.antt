@@ -1,5 +1,5 @@
 use Rattle.std.proofs.Common.{List, Err, Ok, [], ap, length, map, subst, sym, ◌∙◌}
-use Rattle.language_model.specs.LogicTyping.{handler_setting}
+use Rattle.language_model.proofs.parts.LogicTyping.{handler_setting}
 use Rattle.language_model.specs.declared.scope.Port.{Port}
 use Rattle.language_model.specs.Typing.{after}
 use Rattle.language_model.specs.Finds.{Finds}

@@ -28,3 +28,13 @@ returns-clause-same_tables c =
     ∙ ap (λ own. slice_set (slice_set c.args.tables.now n []) n own)
     (c.replace-own.ensures.value ∙ ap (λ s. s.dollars) c.in_ok-part.ensures.same_scope ∙ c.take_table.ensures.table)
     ∙ put_back c.args.tables.now n
+
+pub returns-clause-part : goal.returns-clause-part
+returns-clause-part c =
+    let unit = program_unit c.args.program.now in
+    let n = c.args.op.now.site.expansion in
+    operator_is unit c.args.program.now.graph.now c.args.tables.now c.args.op.now (body_seen c.in-Some.body) c.in-Some-get.invocation.now _
+    (ap (λ xs. body_at_sites unit xs n) (sym c.requires.expansions) ∙ sym c.body.ensures ∙ ap (option_map body_seen) c.in-Some.is)
+    (sym c.get.ensures.value ∙ ap option_copied c.in-Some-get.is)
+    (λ i. record (c.requires.scope i) { dollars = c.take_table.ensures.table i })
+    ∙ c.in_ok-part.ensures.part

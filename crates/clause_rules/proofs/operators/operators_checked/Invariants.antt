@@ -1,5 +1,5 @@
 use Rattle.std.proofs.Common.{◌≡◌, drop}
-use Rattle.language_model.specs.Checking.{operators_checked}
+use Rattle.language_model.specs.parts.Checking.{operators_checked}
 use Rattle.language_model.specs.FunctionTyping.{unit_scope}
 use Rattle.language_model.specs.Finds.{with_front}
 use Rattle.clause_rules.specs.steps.Programs.{program_unit}

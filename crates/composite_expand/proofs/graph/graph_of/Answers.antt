@@ -8,7 +8,7 @@ use Rattle.spl_tree.specs.declared.graph.Op.{Op}
 use Rattle.spl_tree.specs.declared.graph.Stream.{Stream}
 use Rattle.language_model.specs.declared.expansion.Operation.{Operation}
 use Rattle.language_model.specs.Declarations.{first_of}
-use Rattle.language_model.specs.Flat.{files_had}
+use Rattle.language_model.proofs.parts.Flat.{files_had}
 use Rattle.language_model.specs.Taking.{taken, first_untaken}
 use Rattle.composite_expand.specs.steps.Waiting.{IsFirstWaiting}
 use Rattle.composite_expand.proofs.Comes.{loops, same_files}

@@ -1,6 +1,7 @@
 use Rattle.std.proofs.Common.{◌≡◌, [], ◌++◌, ◌∷◌, ◌∙◌, ◌+◌, true, ap, sym, subst, drop, take, eq-eqb}
 use Rattle.std.specs.Prelude.{◌&&◌, length}
-use Rattle.language_model.specs.Invoking.{is_argument, is_parameter, is_among}
+use Rattle.language_model.specs.Invoking.{is_parameter, is_among}
+use Rattle.language_model.specs.parts.Invoking.{is_argument}
 use Rattle.program_tables.specs.Names.{HoldsNames}
 use Rattle.composite_tables.specs.steps.Arguments.{argument_names}
 use Rattle.composite_tables.proofs.Fitting.{fit_behind, fitting, names_at, rest_at, stand_at}

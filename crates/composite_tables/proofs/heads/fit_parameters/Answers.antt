@@ -1,7 +1,8 @@
 use Rattle.std.proofs.Common.{◌≡◌, ◌∙◌, true, false, ap, subst, sym, is_some}
 use Rattle.std.specs.Prelude.{◌&&◌, ◌||◌}
 use Rattle.std.specs.List.{list_all}
-use Rattle.language_model.specs.Invoking.{is_among, has_value}
+use Rattle.language_model.specs.Invoking.{is_among}
+use Rattle.language_model.proofs.parts.Invoking.{has_value}
 use Rattle.composite_tables.specs.steps.Arguments.{argument_names, FitArguments}
 use Rattle.composite_tables.proofs.Fitting.{parameters_left}
 use Rattle.composite_tables.proofs.heads.fit_parameters.Goals as goal

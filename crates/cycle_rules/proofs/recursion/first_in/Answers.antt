@@ -1,7 +1,9 @@
 use Rattle.std.proofs.Common.{◌≡◌, ◌∙◌, ◌<◌, length, Some, ap, sym, subst}
 use Rattle.std.specs.Prelude.{slice_get, filter_map, MatchOption}
 use Rattle.std.proofs.lemmas.Option.{slice_get-get_or}
-use Rattle.language_model.specs.Recursion.{call_among, calls_among, IsAcyclic, IsFirstRecursion}
+use Rattle.language_model.specs.Recursion.{calls_among, IsFirstRecursion}
+use Rattle.language_model.proofs.parts.Recursion.{call_among}
+use Rattle.language_model.specs.parts.Recursion.{IsAcyclic}
 use Rattle.cycle_rules.specs.steps.Named.{caller_seen, callers_seen}
 use Rattle.cycle_rules.proofs.CallTables.{get_map, get_back}
 use Rattle.cycle_rules.proofs.recursion.first_in.Goals as goal

@@ -1,7 +1,7 @@
 use Rattle.std.proofs.Common.{◌≡◌, ◌+◌, drop}
 use Rattle.std.specs.Prelude.{◌&&◌}
 use Rattle.std.specs.List.{list_all}
-use Rattle.language_model.specs.Parameters.{is_constant}
+use Rattle.language_model.specs.parts.Parameters.{is_constant}
 use Rattle.spl_tree.proofs.ExprWeights.{expr_weight, weights, entry_weights, field_weights}
 use Rattle.dollar_rules.proofs.constants.+constants.Given as goal
 

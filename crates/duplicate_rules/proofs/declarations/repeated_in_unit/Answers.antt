@@ -2,7 +2,8 @@ use Rattle.std.proofs.Common.{ap, sym, ◌∙◌}
 use Rattle.std.specs.Prelude.{flat_map}
 use Rattle.std.specs.Option.{option_copied, option_to_list}
 use Rattle.std.proofs.lemmas.Result.{IfOk-weaker}
-use Rattle.language_model.specs.Declarations.{definition_sets, first_in_text, repeated_definitions, repeated_in_definition, repeated_names}
+use Rattle.language_model.specs.Declarations.{definition_sets, first_in_text, repeated_in_definition, repeated_names}
+use Rattle.language_model.specs.parts.Declarations.{repeated_definitions}
 use Rattle.duplicate_rules.proofs.Best.{earliest_is_first}
 use Rattle.duplicate_rules.proofs.Firsts.{first_of_option, third_of_three}
 use Rattle.duplicate_rules.proofs.declarations.repeated_in_unit.Goals as goal

@@ -2,7 +2,7 @@ use Rattle.std.specs.Prelude.{◌≡◌, IsTrue, Some}
 use Rattle.std.proofs.Common.{ap, subst, sym, ◌∙◌}
 use Rattle.spl_value.specs.declared.types.SplType.TheVariants as T
 use Rattle.spl_value.specs.Values.{fits}
-use Rattle.language_model.specs.Operators.{truth_of}
+use Rattle.language_model.specs.parts.Operators.{truth_of}
 use Rattle.language_model.specs.Outcomes.{Done, need}
 use Rattle.value_operations.proofs.Following.{held_stops, held_then}
 use Rattle.expr_eval.proofs.answered.truth_held.Goals as goal

@@ -1,6 +1,6 @@
 use Rattle.std.proofs.Common.{subst}
 use Rattle.language_model.specs.Evaluation.{code_value, world_of}
-use Rattle.language_model.specs.Functions.{calls_of}
+use Rattle.language_model.specs.parts.Functions.{calls_of}
 use Rattle.value_operations.specs.Answers.{Evaluates}
 use Rattle.expr_eval.proofs.evaluate.eval.Goals as goal
 

@@ -4,7 +4,7 @@ use Rattle.std.proofs.lemmas.Option.{slice_get-get_or, slice_get_read}
 use Rattle.spl_tree.specs.declared.code.Code.TheVariants as C
 use Rattle.language_model.specs.Evaluation.{code_value, tuple_of, world_of}
 use Rattle.language_model.specs.EvaluationLaws.{field_values}
-use Rattle.language_model.specs.Functions.{calls_of}
+use Rattle.language_model.specs.parts.Functions.{calls_of}
 use Rattle.language_model.specs.Outcomes.{Done, followed, need}
 use Rattle.value_operations.proofs.Following.{exit, stops_by}
 use Rattle.expr_eval.specs.Fitting.{IsFit}

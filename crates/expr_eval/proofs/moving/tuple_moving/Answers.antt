@@ -2,7 +2,7 @@ use Rattle.std.proofs.Common.{sym, ap, subst, ◌∙◌}
 use Rattle.spl_value.specs.declared.types.SplType.TheVariants as T
 use Rattle.spl_tree.specs.declared.code.Code.TheVariants as C
 use Rattle.language_model.specs.Evaluation.{world_of}
-use Rattle.language_model.specs.Functions.{calls_of}
+use Rattle.language_model.specs.parts.Functions.{calls_of}
 use Rattle.language_model.specs.Outcomes.{Done}
 use Rattle.value_operations.proofs.Following.{stops_by}
 use Rattle.expr_eval.specs.Fitting.{IsFit}

@@ -1,6 +1,7 @@
 use Rattle.std.proofs.Common.{[], ◌++◌, refl, sym, subst}
 use Rattle.language_model.specs.Functions.{bodies_of, runs}
-use Rattle.language_model.specs.Statements.{row_acts, scoped}
+use Rattle.language_model.specs.Statements.{scoped}
+use Rattle.language_model.specs.parts.Statements.{row_acts}
 use Rattle.expr_eval.specs.Running.{Leads, RanAs, state}
 use Rattle.expr_eval.proofs.Bodies.{ran, ran_otherwise}
 use Rattle.expr_eval.proofs.run.run_body.Goals as goal

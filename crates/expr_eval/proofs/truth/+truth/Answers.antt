@@ -1,7 +1,7 @@
 use Rattle.std.proofs.Common.{arith, ap, ◌∙◌, if◌then◌else◌, true, false}
 use Rattle.language_model.specs.Evaluation.{world_of}
 use Rattle.language_model.specs.EvaluationLaws.{truth_value}
-use Rattle.language_model.specs.Functions.{calls_of}
+use Rattle.language_model.specs.parts.Functions.{calls_of}
 use Rattle.language_model.specs.Outcomes.{Done}
 use Rattle.spl_value.specs.declared.types.SplType.TheVariants as T
 use Rattle.value_operations.proofs.Following.{answers_by, stops}

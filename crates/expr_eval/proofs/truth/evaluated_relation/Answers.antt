@@ -1,7 +1,7 @@
 use Rattle.std.proofs.Common.{subst}
 use Rattle.spl_value.specs.declared.types.SplType.TheVariants as T
 use Rattle.language_model.specs.Evaluation.{code_value, world_of}
-use Rattle.language_model.specs.Functions.{calls_of}
+use Rattle.language_model.specs.parts.Functions.{calls_of}
 use Rattle.value_operations.specs.Answers.{AnswersHeld}
 use Rattle.value_operations.proofs.Following.{answers_by, stops}
 use Rattle.expr_eval.proofs.Binary.{left_is_fit, right_is_fit}

@@ -1,7 +1,7 @@
 use Rattle.std.proofs.Common.{subst}
 use Rattle.language_model.specs.Evaluation.{world_of}
 use Rattle.language_model.specs.EvaluationLaws.{truth_value}
-use Rattle.language_model.specs.Functions.{calls_of}
+use Rattle.language_model.specs.parts.Functions.{calls_of}
 use Rattle.value_operations.specs.Answers.{IsSo}
 use Rattle.expr_eval.proofs.truth.holds.Goals as goal
 

@@ -1,6 +1,6 @@
 use Rattle.spl_value.specs.declared.types.SplType.TheVariants as T
 use Rattle.language_model.specs.Evaluation.{world_of}
-use Rattle.language_model.specs.Functions.{calls_of}
+use Rattle.language_model.specs.parts.Functions.{calls_of}
 use Rattle.expr_eval.proofs.Binary.{left_is_fit, right_is_fit}
 use Rattle.expr_eval.proofs.Truths.{relation_done, relation_of_operands}
 use Rattle.expr_eval.proofs.truth.standing_relation.Goals as goal

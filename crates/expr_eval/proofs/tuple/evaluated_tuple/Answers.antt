@@ -1,7 +1,7 @@
 use Rattle.std.proofs.Common.{subst}
 use Rattle.spl_value.specs.declared.types.SplType.TheVariants as T
 use Rattle.language_model.specs.Evaluation.{code_value, world_of}
-use Rattle.language_model.specs.Functions.{calls_of}
+use Rattle.language_model.specs.parts.Functions.{calls_of}
 use Rattle.value_operations.specs.Answers.{Answers}
 use Rattle.expr_eval.proofs.ValueTypes.{gives_tuple}
 use Rattle.expr_eval.proofs.tuple.evaluated_tuple.Goals as goal

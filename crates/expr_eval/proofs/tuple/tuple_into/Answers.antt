@@ -1,7 +1,7 @@
 use Rattle.std.proofs.Common.{subst}
 use Rattle.spl_value.specs.declared.value.Value.TheViews.{out-Value}
 use Rattle.language_model.specs.Evaluation.{code_value, world_of}
-use Rattle.language_model.specs.Functions.{calls_of}
+use Rattle.language_model.specs.parts.Functions.{calls_of}
 use Rattle.language_model.specs.Outcomes.{Done, followed, need}
 use Rattle.language_model.specs.Statements.{level_tuple}
 use Rattle.value_operations.specs.Answers.{IsMadeAs}

@@ -1,5 +1,5 @@
 use Rattle.std.proofs.Common.{subst, sym, ap, ◌∙◌}
-use Rattle.language_model.specs.Statements.{changed_at}
+use Rattle.language_model.specs.parts.Statements.{changed_at}
 use Rattle.value_operations.specs.steps.Places.{CanChangeAt}
 use Rattle.value_operations.proofs.Following.{answer_stops, answer_then}
 use Rattle.expr_eval.specs.Running.{state}

@@ -13,7 +13,8 @@ use Rattle.spl_tree.specs.Trees.{placed, TypeExpr}
 use Rattle.language_model.specs.Leading.{leads}
 use Rattle.language_model.specs.Scopes.{At, at_place}
 use Rattle.language_laws.specs.examples.TypeNames.{seven_types, name_type, as_shape}
-use Rattle.language_model.specs.TypeNames.{Types, leads_to, is_circular, defined_type, shape_meant, type_meant, tuple_type, types_within}
+use Rattle.language_model.specs.TypeNames.{Types, leads_to, shape_meant, type_meant, tuple_type, types_within}
+use Rattle.language_model.specs.parts.TypeNames.{is_circular, defined_type}
 use Rattle.language_model.proofs.TypeNameLaws.{name_laws, int_written, rstring_written, list_written, name_written}
 use Rattle.language_model.specs.Typing.{Found, unknown, after}
 use Rattle.language_laws.proofs.examples.types_on_literals.Goals as goal

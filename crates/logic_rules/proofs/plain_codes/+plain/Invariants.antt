@@ -1,7 +1,7 @@
 use Rattle.std.proofs.Common.{◌≡◌, ◌+◌, drop}
 use Rattle.std.specs.Prelude.{◌&&◌}
 use Rattle.std.specs.List.{list_all}
-use Rattle.language_model.specs.LogicTyping.{is_plain}
+use Rattle.language_model.specs.parts.LogicTyping.{is_plain}
 use Rattle.code_copies.proofs.CodeWeights.{weight, weights, entry_weights, field_weights}
 use Rattle.logic_rules.proofs.plain_codes.+plain.Given as goal
 

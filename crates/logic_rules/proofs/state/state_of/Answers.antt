@@ -1,5 +1,6 @@
 use Rattle.std.proofs.Common.{◌∙◌}
-use Rattle.language_model.specs.LogicTyping.{state_typing, state_variable}
+use Rattle.language_model.specs.LogicTyping.{state_variable}
+use Rattle.language_model.specs.parts.LogicTyping.{state_typing}
 use Rattle.written_types.specs.TypeScopes.{types_in}
 use Rattle.type_rules.proofs.FoundRows.{row_on, row_stops}
 use Rattle.logic_rules.proofs.StateTyping.{state_row}

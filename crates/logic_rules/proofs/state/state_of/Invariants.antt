@@ -1,5 +1,5 @@
 use Rattle.std.proofs.Common.{◌≡◌, drop}
-use Rattle.language_model.specs.LogicTyping.{state_typing}
+use Rattle.language_model.specs.parts.LogicTyping.{state_typing}
 use Rattle.written_types.specs.TypeScopes.{types_in}
 use Rattle.language_model.specs.Finds.{with_front}
 use Rattle.logic_rules.proofs.state.state_of.Given as goal

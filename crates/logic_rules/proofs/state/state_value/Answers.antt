@@ -1,7 +1,8 @@
 use Rattle.std.proofs.Common.{◌≡◌, Err, Ok, Some, false, true, ap, subst, sym, ◌∙◌}
 use Rattle.std.specs.Option.{option_copied}
 use Rattle.language_model.specs.declared.scope.Scope.{Scope}
-use Rattle.language_model.specs.LogicTyping.{is_state_value, state_value}
+use Rattle.language_model.specs.LogicTyping.{state_value}
+use Rattle.language_model.specs.parts.LogicTyping.{is_state_value}
 use Rattle.language_model.specs.Parameters.{constant_scope}
 use Rattle.language_model.specs.Typing.{after, typing}
 use Rattle.language_model.specs.Finds.{Finds}

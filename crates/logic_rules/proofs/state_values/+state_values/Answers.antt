@@ -1,7 +1,7 @@
 use Rattle.std.proofs.Common.{arith, ap, sym, ◌∙◌}
 use Rattle.std.specs.Prelude.{◌&&◌}
 use Rattle.std.specs.List.{list_all}
-use Rattle.language_model.specs.LogicTyping.{is_state_value}
+use Rattle.language_model.specs.parts.LogicTyping.{is_state_value}
 use Rattle.logic_rules.proofs.StateValueLaws.{of_map, of_tuple, passes}
 use Rattle.spl_tree.proofs.ExprWeights.{expr_weight, entry_weight, field_weight, item_below}
 use Rattle.logic_rules.proofs.state_values.+state_values.Goals as goal

@@ -1,7 +1,7 @@
 use Rattle.std.proofs.Common.{◌≡◌, ◌+◌, drop}
 use Rattle.std.specs.Prelude.{◌&&◌}
 use Rattle.std.specs.List.{list_all}
-use Rattle.language_model.specs.LogicTyping.{is_state_value}
+use Rattle.language_model.specs.parts.LogicTyping.{is_state_value}
 use Rattle.spl_tree.proofs.ExprWeights.{expr_weight, weights, entry_weights, field_weights}
 use Rattle.logic_rules.proofs.state_values.+state_values.Given as goal
 

@@ -1,6 +1,6 @@
 use Rattle.std.proofs.Common.{◌≡◌, drop}
 use Rattle.std.specs.List.{list_all}
-use Rattle.language_model.specs.LogicTyping.{is_minus_prefix}
+use Rattle.language_model.specs.parts.LogicTyping.{is_minus_prefix}
 use Rattle.logic_rules.proofs.state_values.are_minus_prefixes.Given as goal
 
 abbrev pub invariant-loop-prefix : goal.invariant-loop-prefix

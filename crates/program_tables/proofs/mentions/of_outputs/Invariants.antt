@@ -1,5 +1,5 @@
 use Rattle.std.proofs.Common.{◌≡◌, ◌++◌, flat_map, take}
-use Rattle.language_model.specs.Mentions.{assignment_mentions}
+use Rattle.language_model.specs.parts.Mentions.{assignment_mentions}
 use Rattle.program_tables.specs.Mentioned.{mentions_seen}
 use Rattle.program_tables.proofs.mentions.of_outputs.Given as goal
 

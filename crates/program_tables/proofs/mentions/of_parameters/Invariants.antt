@@ -1,5 +1,5 @@
 use Rattle.std.proofs.Common.{◌≡◌, ◌++◌, flat_map, take}
-use Rattle.language_model.specs.Mentions.{parameter_mentions}
+use Rattle.language_model.specs.parts.Mentions.{parameter_mentions}
 use Rattle.program_tables.specs.Mentioned.{mentions_seen}
 use Rattle.program_tables.proofs.mentions.of_parameters.Given as goal
 

@@ -1,5 +1,5 @@
 use Rattle.std.proofs.Common.{◌≡◌, ◌++◌, flat_map, take}
-use Rattle.language_model.specs.Mentions.{part_of_window_mentions}
+use Rattle.language_model.specs.parts.Mentions.{part_of_window_mentions}
 use Rattle.program_tables.specs.Mentioned.{mentions_seen}
 use Rattle.program_tables.proofs.mentions.of_window_parts.Given as goal
 

@@ -1,5 +1,5 @@
 use Rattle.std.proofs.Common.{◌≡◌, ◌++◌, flat_map, take}
-use Rattle.language_model.specs.Mentions.{window_mentions}
+use Rattle.language_model.specs.parts.Mentions.{window_mentions}
 use Rattle.program_tables.specs.Mentioned.{mentions_seen}
 use Rattle.program_tables.proofs.mentions.of_windows.Given as goal
 

@@ -1,7 +1,7 @@
 use Rattle.std.proofs.Common.{◌≡◌, ◌==◌, take, map}
 use Rattle.std.specs.Prelude.{not}
 use Rattle.csv.specs.Writing.{default_writer, row_body}
-use Rattle.stream_model.specs.Fields.{field_of}
+use Rattle.stream_model.specs.parts.Fields.{field_of}
 use Rattle.row_writer.proofs.row.add_row.Given as goal
 
 abbrev pub invariant-loop-value : goal.invariant-loop-value

@@ -1,6 +1,7 @@
 //! What the heads around an operator say of its inputs.
 ghost use Rattle.std.specs.Prelude.{◌≡◌, ◌≤◌, OnOk, IsTrue, length};
-ghost use Rattle.language_model.specs.StreamTypes.{each_name, input_heads, invoked_input};
+ghost use Rattle.language_model.specs.StreamTypes.{each_name, input_heads};
+ghost use Rattle.language_model.specs.parts.StreamTypes.{invoked_input};
 ghost use Rattle.language_model.specs.Finds.{Finds};
 ghost use Rattle.body_sites.specs.Bodies.{body_seen};
 ghost use Rattle.stream_rules.specs.steps.Looked.{HavePassed, PassesAlso, has_looked, nothing_looked};

@@ -1,7 +1,7 @@
 use Rattle.std.proofs.Common.{refl, sym, subst, cond, Some, ◌∙◌}
 use Rattle.std.specs.Prelude.{IsSome}
 use Rattle.std.specs.HashMap.{get}
-use Rattle.stream_model.specs.Groups.{of_group}
+use Rattle.stream_model.specs.parts.Groups.{of_group}
 use Rattle.key_maps.specs.MapKeys.{equal_key}
 use Rattle.tuple_groups.proofs.Gathered.{first_member, gathered, more_members}
 use Rattle.tuple_groups.proofs.grouping.gather.Goals as goal

@@ -2,7 +2,8 @@ use Rattle.std.proofs.Common.{◌≡◌, ℕ, List, Err, ap, arith, refl, sym, �
 use Rattle.std.specs.Option.{option_copied}
 use Rattle.language_model.specs.Scopes.{at_place, function_of}
 use Rattle.language_model.specs.Finds.{with_front}
-use Rattle.language_model.specs.Typing.{arguments_typed, binary_or_marker, branch_wanted, call_typed, typing, wants_list, wants_map, wants_tuple}
+use Rattle.language_model.specs.Typing.{arguments_typed, typing}
+use Rattle.language_model.specs.parts.Typing.{binary_or_marker, branch_wanted, call_typed, wants_list, wants_map, wants_tuple}
 use Rattle.language_model.specs.TypingLaws.{entry_parts, field_parts, parted, parts}
 use Rattle.std.specs.Borrow.{Bor}
 use Rattle.spl_value.specs.declared.types.SplType.{SplType}

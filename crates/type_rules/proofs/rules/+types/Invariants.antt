@@ -1,6 +1,7 @@
 use Rattle.std.proofs.Common.{◌≡◌, ◌+◌, ◌-◌, ◌++◌, Ok, drop, length}
 use Rattle.std.specs.Option.{option_copied}
-use Rattle.language_model.specs.Typing.{after, typed, list_typed, wants_list, map_typed, wants_map, tuple_typed, wants_tuple, steps_typed, select_typed, selected, arguments_typed}
+use Rattle.language_model.specs.Typing.{after, typed, list_typed, map_typed, tuple_typed, steps_typed, select_typed, selected, arguments_typed}
+use Rattle.language_model.specs.parts.Typing.{wants_list, wants_map, wants_tuple}
 use Rattle.language_model.specs.TypingLaws.{parts, entry_parts, field_parts, step_parts}
 use Rattle.language_model.specs.Finds.{with_front}
 use Rattle.type_rules.proofs.LiteralLaws.{list_on, map_on, tuple_on}

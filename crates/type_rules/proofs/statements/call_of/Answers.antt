@@ -3,7 +3,8 @@ use Rattle.spl_tree.specs.declared.expression.ExprKind.TheVariants as V
 use Rattle.spl_tree.specs.declared.expression.ExprKind.TheViews.{out-ExprKind}
 use Rattle.language_model.specs.Typing.{call_of}
 use Rattle.language_model.specs.TypingLaws.{parts}
-use Rattle.language_model.specs.StatementTyping.{call_statement, level_call}
+use Rattle.language_model.specs.StatementTyping.{level_call}
+use Rattle.language_model.specs.parts.StatementTyping.{call_statement}
 use Rattle.type_rules.proofs.statements.call_of.Goals as goal
 use Rattle.language_model.proofs.FoundAnswers.{finds_by}
 

@@ -1,5 +1,5 @@
 use Rattle.std.proofs.Common.{[], subst, sym, ◌∷◌}
-use Rattle.language_model.specs.BuiltInCalls.{built_in_of}
+use Rattle.language_model.specs.parts.BuiltInCalls.{built_in_of}
 use Rattle.language_model.specs.Outcomes.{followed, settled}
 use Rattle.value_operations.specs.Answers.{Answers, held}
 use Rattle.value_operations.proofs.Following.{answers_by, held_stops, held_then, settled_answers}

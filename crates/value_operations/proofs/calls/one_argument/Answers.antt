@@ -1,7 +1,7 @@
 use Rattle.std.proofs.Common.{[], ap, ◌∙◌, ◌∷◌}
 use Rattle.spl_value.specs.Calls.{length_of, size_of, abs_of}
 use Rattle.spl_value.proofs.CallsLaws.{exactly_answers}
-use Rattle.language_model.specs.BuiltInCalls.{built_in_of}
+use Rattle.language_model.specs.parts.BuiltInCalls.{built_in_of}
 use Rattle.language_model.proofs.BuiltInCalls.{length_called, size_called, abs_called}
 use Rattle.value_operations.proofs.Arguments.{collection_argument, settles_called}
 use Rattle.value_operations.proofs.calls.one_argument.Goals as goal

@@ -1,6 +1,6 @@
 use Rattle.std.proofs.Common.{[], ap, ◌∙◌, ◌∷◌}
 use Rattle.spl_value.specs.Calls.{substring_of}
-use Rattle.language_model.specs.BuiltInCalls.{built_in_of}
+use Rattle.language_model.specs.parts.BuiltInCalls.{built_in_of}
 use Rattle.language_model.proofs.BuiltInCalls.{substring_called}
 use Rattle.value_operations.proofs.Arguments.{settles_called}
 use Rattle.value_operations.proofs.calls.three_arguments.Goals as goal

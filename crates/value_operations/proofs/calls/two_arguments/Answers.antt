@@ -1,7 +1,7 @@
 use Rattle.std.proofs.Common.{[], ap, ◌∙◌, ◌∷◌}
 use Rattle.spl_value.specs.Calls.{has_key, min_of, max_of}
 use Rattle.spl_value.proofs.CallsLaws.{exactly_answers}
-use Rattle.language_model.specs.BuiltInCalls.{built_in_of}
+use Rattle.language_model.specs.parts.BuiltInCalls.{built_in_of}
 use Rattle.language_model.proofs.BuiltInCalls.{has_called, min_called, max_called}
 use Rattle.value_operations.proofs.Arguments.{settles_called}
 use Rattle.value_operations.proofs.calls.two_arguments.Goals as goal

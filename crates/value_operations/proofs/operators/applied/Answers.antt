@@ -1,5 +1,5 @@
 use Rattle.std.proofs.Common.{subst, sym}
-use Rattle.language_model.specs.Operators.{unary_of}
+use Rattle.language_model.specs.parts.Operators.{unary_of}
 use Rattle.value_operations.specs.Answers.{Settles}
 use Rattle.value_operations.specs.steps.Unaries.{FitsUnary}
 use Rattle.value_operations.proofs.operators.applied.Goals as goal

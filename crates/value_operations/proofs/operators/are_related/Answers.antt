@@ -1,6 +1,7 @@
 use Rattle.std.proofs.Common.{not, ap, ◌∙◌}
 use Rattle.spl_tree.specs.declared.code.BinaryCode.{BinaryCode}
-use Rattle.language_model.specs.Operators.{boolean, binary_of}
+use Rattle.language_model.specs.Operators.{binary_of}
+use Rattle.language_model.specs.parts.Operators.{boolean}
 use Rattle.value_operations.proofs.Operands.{both_operands}
 use Rattle.value_operations.proofs.Operating.{order_gives, equal_is}
 use Rattle.value_operations.proofs.operators.are_related.Goals as goal

@@ -1,6 +1,7 @@
 use Rattle.std.specs.Prelude.{Ok, Err}
 use Rattle.std.proofs.Common.{ap, sym, refl, ◌∙◌}
-use Rattle.language_model.specs.Policies.{aggregate_policy, aggregate_rule, partitioned_or_not}
+use Rattle.language_model.specs.Policies.{aggregate_rule, partitioned_or_not}
+use Rattle.language_model.specs.parts.Policies.{aggregate_policy}
 use Rattle.language_model.specs.Typing.{after}
 use Rattle.literal_sites.specs.Sites.{numbers_at}
 use Rattle.literal_sites.proofs.Answering.{fails_by}

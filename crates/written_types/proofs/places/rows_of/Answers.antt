@@ -1,5 +1,5 @@
 use Rattle.std.proofs.Common.{ap, map, ◌∙◌}
-use Rattle.language_model.specs.TypeNames.{shape_names}
+use Rattle.language_model.specs.parts.TypeNames.{shape_names}
 use Rattle.written_types.specs.steps.Definitions.{places_of}
 use Rattle.written_types.proofs.Rows.{all_taken}
 use Rattle.written_types.proofs.places.rows_of.Goals as goal

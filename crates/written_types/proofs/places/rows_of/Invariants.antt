@@ -1,5 +1,5 @@
 use Rattle.std.proofs.Common.{◌≡◌, map, take}
-use Rattle.language_model.specs.TypeNames.{shape_names}
+use Rattle.language_model.specs.parts.TypeNames.{shape_names}
 use Rattle.written_types.specs.steps.Definitions.{places_of}
 use Rattle.written_types.proofs.places.rows_of.Given as goal
 

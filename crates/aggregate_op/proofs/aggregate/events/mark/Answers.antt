@@ -1,5 +1,5 @@
 use Rattle.std.proofs.Common.{◌++◌, sym, ap, ◌∙◌}
-use Rattle.stream_model.specs.Aggregates.{marker_passed}
+use Rattle.stream_model.specs.parts.Aggregates.{marker_passed}
 use Rattle.aggregate_op.specs.steps.Giving.{contents_given}
 use Rattle.aggregate_op.proofs.GivingSteps.{flushed_tuples, tuples_in}
 use Rattle.aggregate_op.proofs.aggregate.events.mark.Goals as goal

@@ -1,6 +1,6 @@
 use Rattle.std.proofs.Common.{◌++◌, length, ap, sym, ◌∙◌}
 use Rattle.language_model.specs.Outcomes.{Done, need}
-use Rattle.stream_model.specs.Aggregates.{marker_passed}
+use Rattle.stream_model.specs.parts.Aggregates.{marker_passed}
 use Rattle.stream_model.specs.Bodies.{most_turns}
 use Rattle.port_reacts.proofs.Answering.{replies_done}
 use Rattle.aggregate_op.proofs.aggregate.events.on_window.Goals as goal

@@ -1,7 +1,8 @@
 use Rattle.std.proofs.Common.{ap, sym, map, ◌∙◌}
 use Rattle.std.specs.Option.{option_copied}
 use Rattle.std.proofs.lemmas.Result.{IfOk-weaker}
-use Rattle.language_model.specs.Declarations.{declared_name, first_of, graph_names, is_declared, repeated, repeated_names}
+use Rattle.language_model.specs.Declarations.{declared_name, first_of, graph_names, repeated, repeated_names}
+use Rattle.language_model.specs.parts.Declarations.{is_declared}
 use Rattle.duplicate_rules.proofs.Firsts.{second_of_three, third_of_three}
 use Rattle.duplicate_rules.proofs.declarations.composites.repeated_in_composite.Goals as goal
 

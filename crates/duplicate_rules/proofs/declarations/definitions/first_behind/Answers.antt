@@ -1,7 +1,8 @@
 use Rattle.std.proofs.Common.{◌≡◌, ◌+◌, ◌∷◌, Some, true, false, ap, sym, subst, ◌∙◌, drop, map}
 use Rattle.std.specs.Prelude.{◌||◌}
 use Rattle.std.specs.List.{list_any}
-use Rattle.language_model.specs.Declarations.{definition_name, first_of, is_built_in, is_defined, is_same, repeated_after}
+use Rattle.language_model.specs.Declarations.{definition_name, first_of, is_built_in, is_same, repeated_after}
+use Rattle.language_model.proofs.parts.Declarations.{is_defined}
 use Rattle.duplicate_rules.specs.steps.NamesBefore.{Has, Hold}
 use Rattle.duplicate_rules.proofs.DefinitionNames.{same_names}
 use Rattle.duplicate_rules.proofs.NameRows.{is_taken, not_taken, passed, stopped}

@@ -1,7 +1,9 @@
 use Rattle.std.proofs.Common.{◌≡◌, drop, map}
 use Rattle.std.specs.Prelude.{List}
 use Rattle.spl_tree.specs.declared.unit.Definition.{Definition}
-use Rattle.language_model.specs.Declarations.{definition_name, first_of, is_defined, repeated_after, repeated_definitions}
+use Rattle.language_model.specs.Declarations.{definition_name, first_of, repeated_after}
+use Rattle.language_model.proofs.parts.Declarations.{is_defined}
+use Rattle.language_model.specs.parts.Declarations.{repeated_definitions}
 use Rattle.duplicate_rules.specs.steps.NamesBefore.{Hold}
 use Rattle.duplicate_rules.proofs.declarations.definitions.first_behind.Given as goal
 

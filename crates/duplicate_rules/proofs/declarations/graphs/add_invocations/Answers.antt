@@ -1,5 +1,5 @@
 use Rattle.std.proofs.Common.{sym, map, ◌∙◌}
-use Rattle.language_model.specs.Declarations.{invocation_names}
+use Rattle.language_model.specs.parts.Declarations.{invocation_names}
 use Rattle.duplicate_rules.specs.steps.Graphs.{shown}
 use Rattle.duplicate_rules.proofs.GraphNames.{rows_on, rows_past}
 use Rattle.duplicate_rules.proofs.declarations.graphs.add_invocations.Goals as goal

@@ -1,6 +1,6 @@
 use Rattle.std.proofs.Common.{◌≡◌, ◌++◌, drop, map}
 use Rattle.std.specs.Prelude.{flat_map}
-use Rattle.language_model.specs.Declarations.{invocation_names}
+use Rattle.language_model.specs.parts.Declarations.{invocation_names}
 use Rattle.duplicate_rules.specs.steps.Graphs.{shown}
 use Rattle.duplicate_rules.proofs.declarations.graphs.add_invocations.Given as goal
 

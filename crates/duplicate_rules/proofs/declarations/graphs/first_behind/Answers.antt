@@ -1,5 +1,6 @@
 use Rattle.std.proofs.Common.{◌≡◌, ◌+◌, ◌∷◌, Some, true, false, ap, sym, ◌∙◌, drop, map}
-use Rattle.language_model.specs.Declarations.{declared_name, first_of, is_declared, repeated_after}
+use Rattle.language_model.specs.Declarations.{declared_name, first_of, repeated_after}
+use Rattle.language_model.specs.parts.Declarations.{is_declared}
 use Rattle.duplicate_rules.specs.steps.Graphs.{shown}
 use Rattle.duplicate_rules.proofs.NameRows.{passed_new, passed_old}
 use Rattle.duplicate_rules.proofs.declarations.graphs.first_behind.Goals as goal

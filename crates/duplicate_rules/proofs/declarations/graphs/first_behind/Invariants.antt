@@ -1,6 +1,7 @@
 use Rattle.std.proofs.Common.{◌≡◌, drop, map}
 use Rattle.std.specs.Prelude.{List}
-use Rattle.language_model.specs.Declarations.{Declared, declared_name, first_of, is_declared, repeated, repeated_after}
+use Rattle.language_model.specs.Declarations.{Declared, declared_name, first_of, repeated, repeated_after}
+use Rattle.language_model.specs.parts.Declarations.{is_declared}
 use Rattle.duplicate_rules.specs.steps.Graphs.{Stand, shown}
 use Rattle.duplicate_rules.proofs.declarations.graphs.first_behind.Given as goal
 

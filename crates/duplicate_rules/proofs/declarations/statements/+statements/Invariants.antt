@@ -1,7 +1,8 @@
 use Rattle.std.proofs.Common.{◌≡◌, ◌+◌, drop}
 use Rattle.std.specs.Prelude.{flat_map}
 use Rattle.std.specs.Option.{option_copied}
-use Rattle.language_model.specs.Declarations.{block_sets, statement_scoped}
+use Rattle.language_model.specs.Declarations.{block_sets}
+use Rattle.language_model.specs.parts.Declarations.{statement_scoped}
 use Rattle.duplicate_rules.specs.steps.Earliest.{earliest_in}
 use Rattle.duplicate_rules.proofs.SetWeights.{statement_weight, statement_weights, arm_weights}
 use Rattle.duplicate_rules.proofs.declarations.statements.+statements.Given as goal

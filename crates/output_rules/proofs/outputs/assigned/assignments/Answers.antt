@@ -1,5 +1,5 @@
 use Rattle.std.proofs.Common.{◌∙◌, []}
-use Rattle.language_model.specs.OutputTyping.{places}
+use Rattle.language_model.specs.parts.OutputTyping.{places}
 use Rattle.output_rules.proofs.OutputRows.{assigned_on, told_on}
 use Rattle.output_rules.proofs.outputs.assigned.assignments.Goals as goal
 

@@ -1,6 +1,7 @@
 use Rattle.std.proofs.Common.{◌≡◌, ◌∙◌, true, false, sym, ap, arith, ◌+◌, drop}
 use Rattle.language_model.specs.Finds.{with_front}
-use Rattle.language_model.specs.OutputTyping.{filled_from, is_assigned}
+use Rattle.language_model.specs.OutputTyping.{filled_from}
+use Rattle.language_model.proofs.parts.OutputTyping.{is_assigned}
 use Rattle.output_rules.proofs.OutputMarks.{tells_assigned}
 use Rattle.output_rules.proofs.OutputRows.{fill_past, fill_on, fill_stops}
 use Rattle.output_rules.proofs.outputs.assigned.others.Goals.{then-not-marks-place+in_ok-number+in_ok-value+in_ok-push, else-not-marks-place}

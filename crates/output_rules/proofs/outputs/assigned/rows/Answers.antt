@@ -1,6 +1,7 @@
 use Rattle.std.proofs.Common.{◌≡◌, ◌∙◌, [], true, ap, sym, arith}
 use Rattle.std.specs.Str.{bytes_eq}
-use Rattle.language_model.specs.OutputTyping.{assignments_typing, places}
+use Rattle.language_model.specs.OutputTyping.{assignments_typing}
+use Rattle.language_model.specs.parts.OutputTyping.{places}
 use Rattle.language_model.specs.Finds.{with_front}
 use Rattle.output_rules.proofs.OutputRows.{rows_on}
 use Rattle.output_rules.proofs.outputs.assigned.rows.Goals as goal

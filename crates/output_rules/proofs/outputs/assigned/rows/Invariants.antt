@@ -1,5 +1,6 @@
 use Rattle.std.proofs.Common.{◌≡◌, drop, []}
-use Rattle.language_model.specs.OutputTyping.{rows_typing, places}
+use Rattle.language_model.specs.OutputTyping.{rows_typing}
+use Rattle.language_model.specs.parts.OutputTyping.{places}
 use Rattle.language_model.specs.Finds.{with_front}
 use Rattle.output_rules.specs.steps.Marking.{Tells}
 use Rattle.output_rules.proofs.outputs.assigned.rows.Given as goal

@@ -1,5 +1,5 @@
 use Rattle.std.proofs.Common.{[], ◌∷◌, ◌++◌, ap, sym, ◌∙◌}
-use Rattle.language_model.specs.OutputTyping.{collected}
+use Rattle.language_model.specs.parts.OutputTyping.{collected}
 use Rattle.output_rules.proofs.OutputRows.{collected_on}
 use Rattle.output_rules.proofs.outputs.groups.collected.Goals as goal
 

@@ -1,7 +1,7 @@
 use Rattle.std.specs.Prelude.{◌≡◌, ℕ, true, reverse, Some, Err}
 use Rattle.std.proofs.Common.{refl, sym, ap, arith, ◌∙◌}
 use Rattle.spl_value.specs.declared.types.SplType.TheViews.{out-SplType}
-use Rattle.language_model.specs.ParameterTyping.{level_key, word_of}
+use Rattle.language_model.specs.parts.ParameterTyping.{level_key, word_of}
 use Rattle.language_model.specs.Scopes.{at_place}
 use Rattle.literal_sites.proofs.Answering.{refused_by}
 use Rattle.parameter_rules.proofs.Giving.{key_once, key_twice}

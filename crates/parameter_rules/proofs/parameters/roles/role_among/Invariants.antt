@@ -1,6 +1,6 @@
 use Rattle.std.proofs.Common.{◌≡◌, drop, map}
 use Rattle.language_model.specs.Kinds.{parameter_seen}
-use Rattle.language_model.specs.ParameterTyping.{role_among}
+use Rattle.language_model.specs.parts.ParameterTyping.{role_among}
 use Rattle.parameter_rules.proofs.parameters.roles.role_among.Given as goal
 
 abbrev pub invariant-loop-parameter : goal.invariant-loop-parameter

@@ -3,7 +3,8 @@ use Rattle.std.proofs.lemmas.List.{take_rest}
 use Rattle.spl_tree.specs.declared.expression.Placed.{Placed}
 use Rattle.language_model.specs.Expansion.{place_of}
 use Rattle.language_model.specs.Invoking.{stream_names}
-use Rattle.language_model.specs.StreamTypes.{are_alike, so_often, taken_by}
+use Rattle.language_model.specs.StreamTypes.{are_alike, taken_by}
+use Rattle.language_model.specs.parts.StreamTypes.{so_often}
 use Rattle.stream_rules.specs.steps.Among.{graph_of, unit_of}
 use Rattle.body_sites.specs.Bodies.{body_seen}
 use Rattle.stream_rules.proofs.AlikeStreams.{long_enough, name_on, name_stops}

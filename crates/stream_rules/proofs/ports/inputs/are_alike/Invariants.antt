@@ -1,7 +1,8 @@
 use Rattle.std.proofs.Common.{◌≡◌, drop, flat_map}
 use Rattle.language_model.specs.Expansion.{place_of}
 use Rattle.language_model.specs.Invoking.{stream_names}
-use Rattle.language_model.specs.StreamTypes.{are_alike, name_places, so_often, taken_by}
+use Rattle.language_model.specs.StreamTypes.{are_alike, name_places, taken_by}
+use Rattle.language_model.specs.parts.StreamTypes.{so_often}
 use Rattle.stream_rules.specs.steps.Among.{graph_of, unit_of}
 use Rattle.body_sites.specs.Bodies.{body_seen}
 use Rattle.stream_rules.proofs.ports.inputs.are_alike.Given as goal

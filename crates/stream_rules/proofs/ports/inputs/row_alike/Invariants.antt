@@ -1,5 +1,6 @@
 use Rattle.std.proofs.Common.{◌≡◌, drop, length}
-use Rattle.language_model.specs.StreamTypes.{are_alike, so_often}
+use Rattle.language_model.specs.StreamTypes.{are_alike}
+use Rattle.language_model.specs.parts.StreamTypes.{so_often}
 use Rattle.stream_rules.specs.steps.Among.{graph_of, unit_of}
 use Rattle.stream_rules.proofs.ports.inputs.row_alike.Given as goal
 

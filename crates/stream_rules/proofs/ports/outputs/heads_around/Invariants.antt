@@ -1,5 +1,6 @@
 use Rattle.std.proofs.Common.{◌≡◌}
-use Rattle.language_model.specs.StreamTypes.{outer_output, output_heads}
+use Rattle.language_model.specs.StreamTypes.{output_heads}
+use Rattle.language_model.specs.parts.StreamTypes.{outer_output}
 use Rattle.stream_rules.specs.steps.Among.{graph_of, unit_of}
 use Rattle.body_sites.specs.Bodies.{body_seen}
 use Rattle.stream_rules.proofs.ports.outputs.heads_around.Given as goal

@@ -1,6 +1,7 @@
 use Rattle.std.proofs.Common.{false, is_some, sym, ap, ◌∙◌}
 use Rattle.indexmap.specs.IndexSet.{contains}
-use Rattle.stream_model.specs.Windows.{tuples_with, relevant, held, flushes_at_markers}
+use Rattle.stream_model.specs.Windows.{tuples_with, held, flushes_at_markers}
+use Rattle.stream_model.specs.parts.Windows.{relevant}
 use Rattle.key_maps.specs.MapKeys.{equal_key}
 use Rattle.window_policy.specs.Parts.{noted_or}
 use Rattle.window_policy.proofs.Marks.{held-nothing}

@@ -3,7 +3,8 @@ use Rattle.indexmap.specs.IndexMap.{get, insert_entry, values, with_value_at}
 use Rattle.indexmap.proofs.CallerLemmas.{insert_entry-new}
 use Rattle.indexmap.specs.IndexSet.{contains}
 use Rattle.spl_value.specs.declared.value.Value.{Value}
-use Rattle.stream_model.specs.Windows.{tuples_with, relevant, held, fires_behind, flushes_at_markers}
+use Rattle.stream_model.specs.Windows.{tuples_with, held, fires_after, flushes_at_markers}
+use Rattle.stream_model.specs.parts.Windows.{relevant}
 use Rattle.window_policy.specs.Answers.{IsAllowed, firing_of}
 use Rattle.key_maps.specs.MapKeys.{equal_key}
 use Rattle.window_policy.specs.Parts.{Keeps}
@@ -48,12 +49,12 @@ returns-clause-fires c rule h stood =
     let absent = nothing (get equal_key c.args.self.now.parts key) c.in_default.ensures.found in
     let none = none_at rule _ _ absent (stood.at key) in
     let made = subst
-    (λ r. IsAllowed r → Keeps r c.in_ok-part.part (c.args.tuple ∷ []) × (firing_of c.in_ok-part.fired (held r (c.args.tuple ∷ [])) ≡ fires_behind r c.args.tuple []))
+    (λ r. IsAllowed r → Keeps r c.in_ok-part.part (c.args.tuple ∷ []) × (firing_of c.in_ok-part.fired (held r (c.args.tuple ∷ [])) ≡ fires_after r c.args.tuple []))
     stood.by c.in_ok-part.ensures.kept stood.allowed in
     ap (firing_of c.in_ok-part.fired)
     (sym (newest rule key c.args.tuple h) ∙ ap (λ (xs : List (List Value)). held rule (c.args.tuple ∷ xs)) none)
     ∙ made.1
-    ∙ ap (λ (xs : List (List Value)). fires_behind rule c.args.tuple xs) (sym none)
+    ∙ ap (λ (xs : List (List Value)). fires_after rule c.args.tuple xs) (sym none)
     ∙ fires_by rule key c.args.tuple h
 
 pub returns-clause-stands : goal.returns-clause-stands
@@ -62,7 +63,7 @@ returns-clause-stands c rule h stood =
     let absent = nothing (get equal_key c.args.self.now.parts key) c.in_default.ensures.found in
     let none = none_at rule _ _ absent (stood.at key) in
     let made = subst
-    (λ r. IsAllowed r → Keeps r c.in_ok-part.part (c.args.tuple ∷ []) × (firing_of c.in_ok-part.fired (held r (c.args.tuple ∷ [])) ≡ fires_behind r c.args.tuple []))
+    (λ r. IsAllowed r → Keeps r c.in_ok-part.part (c.args.tuple ∷ []) × (firing_of c.in_ok-part.fired (held r (c.args.tuple ∷ [])) ≡ fires_after r c.args.tuple []))
     stood.by c.in_ok-part.ensures.kept stood.allowed in
     let keeps = subst (λ (xs : List (List Value)). Keeps rule c.in_ok-part.part (c.args.tuple ∷ xs)) (sym none) made.0 in
     let parts = c.args.self.now.parts in

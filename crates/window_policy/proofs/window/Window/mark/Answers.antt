@@ -3,7 +3,8 @@ use Rattle.indexmap.specs.IndexMap.{get}
 use Rattle.indexmap.specs.IndexSet.{contains}
 use Rattle.std.specs.Map.{lookup}
 use Rattle.spl_value.specs.declared.value.Value.{Value}
-use Rattle.stream_model.specs.Windows.{Mark, tuples_with, relevant, flushes_at_markers}
+use Rattle.stream_model.specs.Windows.{Mark, tuples_with, flushes_at_markers}
+use Rattle.stream_model.specs.parts.Windows.{relevant}
 use Rattle.key_maps.specs.MapKeys.{equal_key}
 use Rattle.window_policy.specs.Parts.{At, noted_or}
 use Rattle.window_policy.proofs.Marks.{flushes_all, nothing_counts}

@@ -1,5 +1,6 @@
 use Rattle.std.proofs.Common.{◌∷◌, sym, ap, ◌∙◌}
-use Rattle.stream_model.specs.Windows.{Insert, tuples_with, relevant, held}
+use Rattle.stream_model.specs.Windows.{Insert, tuples_with, held}
+use Rattle.stream_model.specs.parts.Windows.{relevant}
 use Rattle.window_policy.proofs.Marks.{held-nothing}
 use Rattle.window_policy.proofs.Places.{values_at}
 use Rattle.window_policy.proofs.Windows.{kept_at, none_at}

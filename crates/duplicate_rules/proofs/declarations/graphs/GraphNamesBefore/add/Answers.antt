@@ -1,7 +1,7 @@
 use Rattle.std.proofs.Common.{◌∷◌, ap, sym, subst, ◌∙◌}
 use Rattle.std.specs.Prelude.{not}
 use Rattle.std.proofs.lemmas.Result.{IfOk-weaker}
-use Rattle.language_model.specs.Declarations.{is_declared}
+use Rattle.language_model.specs.parts.Declarations.{is_declared}
 use Rattle.duplicate_rules.specs.steps.Graphs.{Stand, shown, others_of}
 use Rattle.duplicate_rules.proofs.GraphNames.{declared_output, declared_input, declared_stream, declared_alias}
 use Rattle.duplicate_rules.proofs.declarations.graphs.GraphNamesBefore.add.Goals as goal

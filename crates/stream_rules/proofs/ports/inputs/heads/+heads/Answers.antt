@@ -1,6 +1,6 @@
 use Rattle.std.proofs.Common.{◌≡◌, suc, Err, Option, ap, sym, subst, ◌∙◌, arith}
 use Rattle.spl_tree.specs.declared.unit.HeadPort.{HeadPort}
-use Rattle.language_model.specs.StreamTypes.{port_matches}
+use Rattle.language_model.specs.parts.StreamTypes.{port_matches}
 use Rattle.language_model.specs.Finds.{Finds}
 use Rattle.stream_rules.specs.steps.Among.{graph_of, unit_of}
 use Rattle.body_sites.specs.Bodies.{body_seen}

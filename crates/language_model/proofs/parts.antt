@@ -1,0 +1,24 @@
+-- Words for parts of rules, which proofs cite.
+pub mod Accepted
+pub mod BodyTyping
+pub mod Checking
+pub mod Composites
+pub mod Declarations
+pub mod Expansion
+pub mod Flat
+pub mod FunctionTyping
+pub mod Invoking
+pub mod LogicTyping
+pub mod Mentions
+pub mod Numbering
+pub mod Operators
+pub mod OutputTyping
+pub mod ParameterTyping
+pub mod Parameters
+pub mod Policies
+pub mod Recursion
+pub mod Scopes
+pub mod SinkFiles
+pub mod Statements
+pub mod StreamTypes
+pub mod Typing

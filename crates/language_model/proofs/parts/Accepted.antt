@@ -1,0 +1,9 @@
+-- Words for parts of the rules of programs that are accepted: a refused check as a refused program.
+use Rattle.std.specs.Prelude.{Result}
+use Rattle.std.specs.Result.{result_map_both}
+use Rattle.language_model.specs.declared.scope.CheckRefusal.{CheckRefusal}
+use Rattle.language_model.specs.CheckedGraph.{CheckedGraph}
+use Rattle.language_model.specs.Accepted.{ProgramRefusal, Check}
+
+abbrev pub refused_check : Result CheckedGraph CheckRefusal → Result CheckedGraph ProgramRefusal
+refused_check r = result_map_both (λ c. c) Check r

@@ -1,0 +1,11 @@
+pub mod Aggregates
+pub mod Arrivals
+pub mod Customs
+pub mod Fields
+pub mod Meaning
+pub mod PortEvents
+pub mod Regions
+pub mod Rows
+pub mod Selectivity
+pub mod Stages
+pub mod Windows

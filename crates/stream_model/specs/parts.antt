@@ -1,0 +1,16 @@
+pub mod Aggregates
+pub mod Bodies
+pub mod Copies
+pub mod Customs
+pub mod Ends
+pub mod Fields
+pub mod Groups
+pub mod Operators
+pub mod PortEvents
+pub mod React
+pub mod Records
+pub mod Regions
+pub mod Rows
+pub mod Selectivity
+pub mod StateKinds
+pub mod Windows
