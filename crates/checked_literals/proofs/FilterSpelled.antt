@@ -14,13 +14,13 @@ use Rattle.spl_tree.specs.declared.token.TokenKind.{TokenKind}
 use Rattle.spl_tree.specs.declared.token.TokenKind.TheVariants as T
 use Rattle.spl_tree.specs.declared.unit.Parameter.{Parameter}
 use Rattle.spl_tree.specs.Trees.{Expr, placed}
-use Rattle.spl_tree.specs.steps.Grammar.{At, Primary, Spells, plain, tighter, unary, operand, primary, name, literal, number, text, binary, first_item}
+use Rattle.spl_tree.specs.spellings.Grammar.{At, Primary, Spells, plain, tighter, unary, operand, primary, name, literal, number, text, binary, first_item}
 use Rattle.spl_tree.proofs.UnitSpellings.{named}
 use Rattle.spl_tree.specs.Operators.{binary_of}
-use Rattle.spl_tree.specs.steps.Phrases as R
-use Rattle.spl_tree.specs.steps.StatementGrammar as Q
-use Rattle.spl_tree.specs.steps.TypeGrammar as Y
-use Rattle.spl_tree.specs.steps.UnitGrammar as U
+use Rattle.spl_tree.specs.spellings.Phrases as R
+use Rattle.spl_tree.specs.spellings.StatementGrammar as Q
+use Rattle.spl_tree.specs.spellings.TypeGrammar as Y
+use Rattle.spl_tree.specs.spellings.UnitGrammar as U
 use Rattle.checked_literals.specs.examples.Filtered.{condition, filter, filtered, sink, source}
 use Rattle.checked_literals.specs.examples.Shapes.{attribute_at, file_parameters, int64_at, output_of, parameter_at, port_at, with_parameters}
 

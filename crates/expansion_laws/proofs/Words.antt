@@ -28,11 +28,11 @@ use Rattle.spl_tree.specs.declared.unit.OutputStream.{OutputStream}
 use Rattle.spl_tree.specs.Bytes.{is_letter, is_quote}
 use Rattle.spl_tree.specs.Trees.{placed}
 use Rattle.spl_tree.specs.Laws.{Cut, done, gap, token}
-use Rattle.spl_tree.specs.steps.Phrases as P
-use Rattle.spl_tree.specs.steps.Phrases.{Row, Separated}
+use Rattle.spl_tree.specs.spellings.Phrases as P
+use Rattle.spl_tree.specs.spellings.Phrases.{Row, Separated}
 use Rattle.spl_tree.specs.Tokens.{Refusal, is_word, word_kind, digits, suffix, suffix_kind, number_kind, unescaped, between_quotes, text_kind, ends_text, kind_of}
-use Rattle.spl_tree.specs.steps.UnitGrammar as U
-use Rattle.spl_tree.specs.steps.UnitGrammar.{SpellsAlias, SpellsComposite, SpellsDefinition, SpellsHead, SpellsInvocation, SpellsOutputStream, SpellsUnit}
+use Rattle.spl_tree.specs.spellings.UnitGrammar as U
+use Rattle.spl_tree.specs.spellings.UnitGrammar.{SpellsAlias, SpellsComposite, SpellsDefinition, SpellsHead, SpellsInvocation, SpellsOutputStream, SpellsUnit}
 use Rattle.spl_tree.specs.Words.{keyword_of, symbol_of}
 use Rattle.spl_tree.proofs.CutLaws.{cut_law}
 use Rattle.spl_tree.proofs.TokenLaws.{kind_in}

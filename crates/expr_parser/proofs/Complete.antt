@@ -13,7 +13,7 @@ use Rattle.spl_tree.specs.declared.expression.Field.{Field}
 use Rattle.spl_tree.specs.declared.expression.Step.{Step}
 use Rattle.spl_tree.specs.Operators.{level, prefix_symbol, prefix_of, is_symbol}
 use Rattle.spl_tree.specs.Trees.{Expr, Prefix, placed}
-use Rattle.spl_tree.specs.steps.Grammar.{Is, Names, Literal, dollar, number, text, yes, no, Prefixes, no_prefixes, operator, cast, Primary, literal, name, call, group, list, empty_map, map, tuple, Elements, no_elements, elements, Items, first_item, next_item, Entries, first_entry, next_entry, Fields, first_field, next_field, Steps, no_steps, member, index, Operand, primary, select, Unary, operand, prefixed, At, unary, tighter, binary, Spells, plain, conditional}
+use Rattle.spl_tree.specs.spellings.Grammar.{Is, Names, Literal, dollar, number, text, yes, no, Prefixes, no_prefixes, operator, cast, Primary, literal, name, call, group, list, empty_map, map, tuple, Elements, no_elements, elements, Items, first_item, next_item, Entries, first_entry, next_entry, Fields, first_field, next_field, Steps, no_steps, member, index, Operand, primary, select, Unary, operand, prefixed, At, unary, tighter, binary, Spells, plain, conditional}
 use Rattle.expr_parser.specs.Rules as rules
 use Rattle.expr_parser.specs.Rules.{done, stop, look, RuleResult, Took, RunsTo, Reads}
 use Rattle.expr_parser.proofs.RuleLaws.{line, runs_done, runs_take, runs_skip, runs_call}

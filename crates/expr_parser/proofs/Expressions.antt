@@ -2,7 +2,7 @@
 use Rattle.std.proofs.Common.{◌≡◌, List}
 use Rattle.spl_tree.specs.declared.token.Token.{Token}
 use Rattle.spl_tree.specs.Trees.{Expr}
-use Rattle.spl_tree.specs.steps.Grammar.{Spells}
+use Rattle.spl_tree.specs.spellings.Grammar.{Spells}
 use Rattle.spl_tree.specs.Fronts.{IsPhrase, IsUnexpected}
 use Rattle.spl_tree.proofs.AlikePhrases.{phrase_alike, unexpected_alike}
 use Rattle.grammar_laws.proofs.ToLines.{expression_to_lines}

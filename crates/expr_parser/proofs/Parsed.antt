@@ -5,7 +5,7 @@ use Rattle.std.proofs.lemmas.List.{take_rest, drop-drop}
 use Rattle.spl_tree.specs.declared.token.Token.{Token}
 use Rattle.spl_tree.specs.declared.token.Tokens.{Tokens}
 use Rattle.spl_tree.specs.Trees.{Expr}
-use Rattle.spl_tree.specs.steps.Grammar.{Spells}
+use Rattle.spl_tree.specs.spellings.Grammar.{Spells}
 use Rattle.spl_tree.specs.Weights.{too_deep_from}
 use Rattle.expr_parser.specs.Rules.{Took, Refused, Reads}
 use Rattle.expr_parser.specs.Lines.{Whole, rule}

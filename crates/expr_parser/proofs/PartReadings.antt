@@ -3,9 +3,9 @@ use Rattle.std.proofs.Common.{◌≡◌, ℕ, false, List, [], ◌∷◌, Err, r
 use Rattle.spl_tree.specs.declared.symbol.Symbol.{Symbol}
 use Rattle.spl_tree.specs.declared.symbol.Symbol.TheVariants as S
 use Rattle.spl_tree.specs.declared.token.Token.{Token}
-use Rattle.spl_tree.specs.steps.Phrases.{Phrase}
+use Rattle.spl_tree.specs.spellings.Phrases.{Phrase}
 use Rattle.spl_tree.specs.Trees.{Expr}
-use Rattle.spl_tree.specs.steps.Grammar.{Elements, Items, first_item, no_steps}
+use Rattle.spl_tree.specs.spellings.Grammar.{Elements, Items, first_item, no_steps}
 use Rattle.expr_parser.specs.declared.stop.Stop.{Stop}
 use Rattle.expr_parser.specs.declared.stop.Stop.TheVariants as R
 use Rattle.expr_parser.specs.Rules.{RuleResult, Took, Refused, Spent, read, Reads}

@@ -11,10 +11,10 @@ use Rattle.spl_tree.specs.declared.expression.Field.{Field}
 use Rattle.spl_tree.specs.declared.expression.Step.{Step}
 use Rattle.spl_tree.specs.declared.expression.Step.TheVariants as N
 use Rattle.spl_tree.specs.Trees.{Expr, Prefix, placed}
-use Rattle.spl_tree.specs.steps.Grammar.{Is, Names, Literal, dollar, number, text, yes, no, Prefixes, no_prefixes, operator, cast, Primary, literal, name, call, group, list, empty_map, map, tuple, Elements, no_elements, elements, Items, first_item, next_item, Entries, first_entry, next_entry, Fields, first_field, next_field, Steps, no_steps, member, index, Operand, primary, select, Unary, operand, prefixed, At, unary, tighter, binary, Spells, plain, conditional}
+use Rattle.spl_tree.specs.spellings.Grammar.{Is, Names, Literal, dollar, number, text, yes, no, Prefixes, no_prefixes, operator, cast, Primary, literal, name, call, group, list, empty_map, map, tuple, Elements, no_elements, elements, Items, first_item, next_item, Entries, first_entry, next_entry, Fields, first_field, next_field, Steps, no_steps, member, index, Operand, primary, select, Unary, operand, prefixed, At, unary, tighter, binary, Spells, plain, conditional}
 use Rattle.expr_parser.specs.Rules as rules
 use Rattle.expr_parser.specs.Rules.{done, stop, look, read}
-use Rattle.spl_tree.specs.steps.Phrases.{Phrase}
+use Rattle.spl_tree.specs.spellings.Phrases.{Phrase}
 use Rattle.spl_tree.specs.Fronts.{Starts}
 use Rattle.expr_parser.specs.Parts.{Closed, closed, SpellsSteps, alone, selects}
 use Rattle.expr_parser.proofs.Soundness.{Behind, After, EachStarts, Leads, leads_some, Sound, sound as sound_lines}

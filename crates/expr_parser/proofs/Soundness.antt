@@ -2,7 +2,7 @@
 use Rattle.std.proofs.Common.{◌≡◌, ◌∙◌, ℕ, zero, suc, Bool, true, false, if◌then◌else◌, List, [], ◌∷◌, ◌++◌, refl, sym, ap, append_assoc}
 use Rattle.spl_tree.specs.declared.token.Token.{Token}
 use Rattle.expr_parser.specs.Rules.{Rule, done, stop, look, call, RuleResult, Took, Refused, Spent, Reader, and_then, run, read}
-use Rattle.spl_tree.specs.steps.Phrases.{Phrase}
+use Rattle.spl_tree.specs.spellings.Phrases.{Phrase}
 use Rattle.spl_tree.specs.Fronts.{Starts}
 use Rattle.expr_parser.specs.Parts.{Takes, Begins}
 

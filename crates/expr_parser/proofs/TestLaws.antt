@@ -19,7 +19,7 @@ use Rattle.spl_tree.specs.declared.expression.CastTarget.TheVariants as C
 use Rattle.spl_tree.specs.Words.{symbol_text, symbol_of}
 use Rattle.spl_tree.proofs.WordLaws.{symbols_law}
 use Rattle.spl_tree.specs.Operators.{binary_symbol, binary_keyword, binary_of, level, prefix_of, target_keyword, target_of, is_symbol}
-use Rattle.spl_tree.specs.steps.Grammar.{Is, Names, Literal, dollar, number, text, yes, no}
+use Rattle.spl_tree.specs.spellings.Grammar.{Is, Names, Literal, dollar, number, text, yes, no}
 use Rattle.expr_parser.specs.Taken.{begins_with}
 use Rattle.expr_parser.specs.Lines.{is, name_kind, is_name, name_of, keyword_literal, literal_kind, is_literal, is_prefix, is_target, is_operator, operator_of, at_level}
 

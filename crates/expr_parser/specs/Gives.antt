@@ -7,7 +7,7 @@ use Rattle.expr_parser.specs.declared.stop.Stop.TheVariants as S
 use Rattle.expr_parser.specs.Rules.{RuleResult, Took, Refused, Reads}
 use Rattle.spl_tree.specs.declared.symbol.Symbol.{Symbol}
 use Rattle.spl_tree.specs.declared.expression.Placed.{Placed}
-use Rattle.spl_tree.specs.steps.Phrases.{Phrase}
+use Rattle.spl_tree.specs.spellings.Phrases.{Phrase}
 use Rattle.spl_tree.specs.Trees.{placed}
 use Rattle.spl_tree.specs.Fronts.{IsPhrase, IsUnexpected}
 use Rattle.expr_parser.specs.Taken.{begins_with, Taken, TakenAs}

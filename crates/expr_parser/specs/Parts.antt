@@ -8,9 +8,9 @@ use Rattle.spl_tree.specs.declared.token.Token.{Token}
 use Rattle.spl_tree.specs.declared.expression.ExprKind.TheVariants as X
 use Rattle.spl_tree.specs.declared.expression.Step.{Step}
 use Rattle.spl_tree.specs.Operators.{prefix_symbol, binary_symbol}
-use Rattle.spl_tree.specs.steps.Phrases.{Phrase}
+use Rattle.spl_tree.specs.spellings.Phrases.{Phrase}
 use Rattle.spl_tree.specs.Trees.{Expr, placed}
-use Rattle.spl_tree.specs.steps.Grammar.{Is, Steps}
+use Rattle.spl_tree.specs.spellings.Grammar.{Is, Steps}
 use Rattle.spl_tree.specs.Fronts.{Starts}
 
 -- the tokens in front of the rest spell that value

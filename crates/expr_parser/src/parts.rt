@@ -3,7 +3,7 @@ ghost use Rattle.std.specs.Prelude.{◌≡◌, false, []};
 ghost use Rattle.expr_parser.specs.Gives.{Answers, Begun, Spelled};
 ghost use Rattle.expr_parser.specs.Lines as lines;
 ghost use Rattle.expr_parser.specs.Parts.{Closed, SpellsSteps, goes_on};
-ghost use Rattle.spl_tree.specs.steps.Grammar.{Elements, Items, Spells};
+ghost use Rattle.spl_tree.specs.spellings.Grammar.{Elements, Items, Spells};
 
 use crate::parse::MOST_NESTED;
 use crate::reading::{elements, expr, items, steps};

@@ -26,12 +26,12 @@ use Rattle.spl_tree.specs.declared.unit.FunctionDefinition.{FunctionDefinition}
 use Rattle.spl_tree.specs.declared.unit.WindowPart.{WindowPart}
 use Rattle.spl_tree.specs.declared.expression.Field.{Field}
 use Rattle.spl_tree.specs.Trees.{Expr, placed, TypeExpr, Shape, Stmt}
-use Rattle.spl_tree.specs.steps.Grammar.{Items, Fields}
-use Rattle.spl_tree.specs.steps.Phrases.{Phrase, Row, Separated, Listed}
-use Rattle.spl_tree.specs.steps.TypeGrammar.{SpellsType, SpellsShape, SpellsFunctionParameters}
-use Rattle.spl_tree.specs.steps.StatementGrammar.{SpellsDeclaration, SpellsBlock}
-use Rattle.spl_tree.specs.steps.UnitGrammar as U
-use Rattle.spl_tree.specs.steps.UnitGrammar.{SpellsName, SpellsAlias, SpellsTypeDefinition, SpellsParameter, Clause, PlacedClause, SpellsStream, SpellsOutputStream, SpellsHead, SpellsInput, SpellsState, SpellsStateClause, HandlesEvent, SpellsHandler, SpellsLogic, SpellsWindowPart, SpellsPortWindow, SpellsOutputAssignments, SpellsClauses, SpellsEnd, SpellsInvocation, SpellsHeadPort, SpellsPorts, SpellsPortLists, SpellsHeadPorts, SpellsDefault, SpellsCompositeParameter, SpellsPublic, SpellsComposite, SpellsResultType, SpellsFunction, SpellsDefinition, SpellsNamespace, SpellsUnit}
+use Rattle.spl_tree.specs.spellings.Grammar.{Items, Fields}
+use Rattle.spl_tree.specs.spellings.Phrases.{Phrase, Row, Separated, Listed}
+use Rattle.spl_tree.specs.spellings.TypeGrammar.{SpellsType, SpellsShape, SpellsFunctionParameters}
+use Rattle.spl_tree.specs.spellings.StatementGrammar.{SpellsDeclaration, SpellsBlock}
+use Rattle.spl_tree.specs.spellings.UnitGrammar as U
+use Rattle.spl_tree.specs.spellings.UnitGrammar.{SpellsName, SpellsAlias, SpellsTypeDefinition, SpellsParameter, Clause, PlacedClause, SpellsStream, SpellsOutputStream, SpellsHead, SpellsInput, SpellsState, SpellsStateClause, HandlesEvent, SpellsHandler, SpellsLogic, SpellsWindowPart, SpellsPortWindow, SpellsOutputAssignments, SpellsClauses, SpellsEnd, SpellsInvocation, SpellsHeadPort, SpellsPorts, SpellsPortLists, SpellsHeadPorts, SpellsDefault, SpellsCompositeParameter, SpellsPublic, SpellsComposite, SpellsResultType, SpellsFunction, SpellsDefinition, SpellsNamespace, SpellsUnit}
 use Rattle.grammar_laws.specs.Pieces.{one, word, sign, Name, name, Dollar, dollar, joined, nothing, In, first}
 use Rattle.grammar_laws.specs.UnitLines.{ClauseLine, PlacedClauseLine, ClauseLines, alias_line, PortLines, EventWord, tuple, punctuation, logic_line, window_part_line, InvocationLines, head_port_line, default_line, result_line, DefinitionLine, a_type, a_function, a_composite, DefinitionLines}
 use Rattle.grammar_laws.proofs.StatementLines.{first-append, first_begins, begins_first}

@@ -15,9 +15,9 @@ use Rattle.spl_tree.specs.declared.symbol.Symbol.TheVariants as S
 use Rattle.spl_tree.specs.declared.token.Token.{Token}
 use Rattle.spl_tree.specs.declared.token.TokenKind.{TokenKind}
 use Rattle.spl_tree.specs.Operators.{binary_of, level, prefix_of, prefix_symbol, target_of}
-use Rattle.spl_tree.specs.steps.Grammar as G
+use Rattle.spl_tree.specs.spellings.Grammar as G
 use Rattle.spl_tree.specs.Trees.{Expr, Prefix, placed}
-use Rattle.spl_tree.specs.steps.Grammar.{Primary, Items, Entries, Fields, Steps, Prefixes, Operand, Unary, At, Spells}
+use Rattle.spl_tree.specs.spellings.Grammar.{Primary, Items, Entries, Fields, Steps, Prefixes, Operand, Unary, At, Spells}
 use Rattle.grammar_laws.specs.Pieces.{One, one, sign, Name, name, joined, In, first}
 use Rattle.grammar_laws.specs.ExpressionLines.{PrimaryLine, dollar, number, text, truth, untruth, a_name, call, group, list, empty_map, map, tuple, PrimaryLineLaw, ListLines, PrefixSign, not_sign, minus_sign, tilde_sign, Target, to_integer, to_text, placed_at, Binds, multiply, divide, remainder, add, subtract, less, less_or_equal, greater, greater_or_equal, within, equal, not_equal, bit_and, bit_xor, bit_or, and, or, OperatorLines}
 

@@ -13,12 +13,12 @@ use Rattle.spl_tree.specs.declared.unit.Definition.{Definition}
 use Rattle.spl_tree.specs.declared.unit.Definition.TheVariants as D
 use Rattle.spl_tree.specs.declared.unit.FunctionDefinition.{FunctionDefinition}
 use Rattle.spl_tree.specs.Trees.{Expr, Stmt, TypeExpr}
-use Rattle.spl_tree.specs.steps.StatementGrammar as G
-use Rattle.spl_tree.specs.steps.StatementGrammar.{SpellsPlace, SpellsCall, SpellsDeclaration, SpellsMutable, SpellsStmt, SpellsArms}
-use Rattle.spl_tree.specs.steps.TypeGrammar as Q
-use Rattle.spl_tree.specs.steps.TypeGrammar.{SpellsType}
-use Rattle.spl_tree.specs.steps.UnitGrammar as U
-use Rattle.spl_tree.specs.steps.UnitGrammar.{SpellsComposite, SpellsDefinition, SpellsFunction, SpellsPublic, SpellsResultType}
+use Rattle.spl_tree.specs.spellings.StatementGrammar as G
+use Rattle.spl_tree.specs.spellings.StatementGrammar.{SpellsPlace, SpellsCall, SpellsDeclaration, SpellsMutable, SpellsStmt, SpellsArms}
+use Rattle.spl_tree.specs.spellings.TypeGrammar as Q
+use Rattle.spl_tree.specs.spellings.TypeGrammar.{SpellsType}
+use Rattle.spl_tree.specs.spellings.UnitGrammar as U
+use Rattle.spl_tree.specs.spellings.UnitGrammar.{SpellsComposite, SpellsDefinition, SpellsFunction, SpellsPublic, SpellsResultType}
 use Rattle.grammar_laws.specs.Forms as F
 use Rattle.grammar_laws.specs.Forms.{IsTypeForm, TypeFormLaw, BeginsType, IsForm, FormLaw, IsDefinitionForm, DefinitionFormLaw}
 use Rattle.grammar_laws.proofs.FromLines.{meant}

@@ -12,13 +12,13 @@ use Rattle.spl_tree.specs.declared.token.TokenKind.TheVariants as T
 use Rattle.spl_tree.specs.declared.unit.Definition.{Definition}
 use Rattle.spl_tree.specs.declared.unit.Definition.TheVariants as D
 use Rattle.spl_tree.specs.Operators.{binary_of, prefix_of, target_of, assignment_of}
-use Rattle.spl_tree.specs.steps.Grammar as G
+use Rattle.spl_tree.specs.spellings.Grammar as G
 use Rattle.spl_tree.specs.Trees.{Expr, placed, TypeExpr, Stmt}
-use Rattle.spl_tree.specs.steps.TypeGrammar as Q
-use Rattle.spl_tree.specs.steps.TypeGrammar.{SpellsType}
-use Rattle.spl_tree.specs.steps.StatementGrammar as Z
-use Rattle.spl_tree.specs.steps.StatementGrammar.{SpellsCall, SpellsStmt}
-use Rattle.spl_tree.specs.steps.UnitGrammar as U
+use Rattle.spl_tree.specs.spellings.TypeGrammar as Q
+use Rattle.spl_tree.specs.spellings.TypeGrammar.{SpellsType}
+use Rattle.spl_tree.specs.spellings.StatementGrammar as Z
+use Rattle.spl_tree.specs.spellings.StatementGrammar.{SpellsCall, SpellsStmt}
+use Rattle.spl_tree.specs.spellings.UnitGrammar as U
 use Rattle.spl_tree.specs.Grammar as L
 use Rattle.grammar_laws.specs.Pieces.{one, sign, Name, name, Dollar, dollar, Joined, joined, nothing, first}
 use Rattle.grammar_laws.specs.ExpressionLines as E

@@ -24,16 +24,16 @@ use Rattle.spl_tree.specs.declared.unit.Logic.{Logic}
 use Rattle.spl_tree.specs.declared.unit.OutputStream.{OutputStream}
 use Rattle.spl_tree.specs.declared.unit.TypeDefinition.{TypeDefinition}
 use Rattle.spl_tree.specs.declared.unit.WindowPart.{WindowPart}
-use Rattle.spl_tree.specs.steps.Grammar as G
+use Rattle.spl_tree.specs.spellings.Grammar as G
 use Rattle.spl_tree.specs.Trees.{Expr, Prefix, placed, TypeExpr, Shape, Stmt}
-use Rattle.spl_tree.specs.steps.Phrases as R
-use Rattle.spl_tree.specs.steps.Phrases.{Row, Separated, Listed}
-use Rattle.spl_tree.specs.steps.TypeGrammar as Q
-use Rattle.spl_tree.specs.steps.TypeGrammar.{SpellsType, SpellsAttributes, SpellsFunctionParameters}
-use Rattle.spl_tree.specs.steps.StatementGrammar as Z
-use Rattle.spl_tree.specs.steps.StatementGrammar.{SpellsBlock, SpellsCall, SpellsDeclaration, SpellsMutable, SpellsStmts, SpellsValue}
-use Rattle.spl_tree.specs.steps.UnitGrammar as U
-use Rattle.spl_tree.specs.steps.UnitGrammar.{SpellsName, SpellsAlias, SpellsTypeDefinition, SpellsParameter, Clause, PlacedClause, SpellsStream, SpellsOutputStream, SpellsInput, SpellsHandler, SpellsLogic, SpellsWindowPart, SpellsPortWindow, SpellsOutputAssignments, SpellsClauses, SpellsInvocation, SpellsHeadPort, SpellsPorts, SpellsDefault, SpellsCompositeParameter, SpellsPublic, SpellsResultType}
+use Rattle.spl_tree.specs.spellings.Phrases as R
+use Rattle.spl_tree.specs.spellings.Phrases.{Row, Separated, Listed}
+use Rattle.spl_tree.specs.spellings.TypeGrammar as Q
+use Rattle.spl_tree.specs.spellings.TypeGrammar.{SpellsType, SpellsAttributes, SpellsFunctionParameters}
+use Rattle.spl_tree.specs.spellings.StatementGrammar as Z
+use Rattle.spl_tree.specs.spellings.StatementGrammar.{SpellsBlock, SpellsCall, SpellsDeclaration, SpellsMutable, SpellsStmts, SpellsValue}
+use Rattle.spl_tree.specs.spellings.UnitGrammar as U
+use Rattle.spl_tree.specs.spellings.UnitGrammar.{SpellsName, SpellsAlias, SpellsTypeDefinition, SpellsParameter, Clause, PlacedClause, SpellsStream, SpellsOutputStream, SpellsInput, SpellsHandler, SpellsLogic, SpellsWindowPart, SpellsPortWindow, SpellsOutputAssignments, SpellsClauses, SpellsInvocation, SpellsHeadPort, SpellsPorts, SpellsDefault, SpellsCompositeParameter, SpellsPublic, SpellsResultType}
 use Rattle.spl_tree.specs.Grammar as L
 use Rattle.grammar_laws.specs.Pieces.{One, one, word, sign, Name, name, joined, nothing, In}
 use Rattle.grammar_laws.specs.UnitLines as W

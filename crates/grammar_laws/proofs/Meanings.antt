@@ -10,14 +10,14 @@ use Rattle.spl_tree.specs.declared.token.Token.{Token}
 use Rattle.spl_tree.specs.declared.token.TokenKind.{TokenKind}
 use Rattle.spl_tree.specs.declared.token.TokenKind.TheVariants as T
 use Rattle.spl_tree.specs.Operators.{prefix_of, target_of}
-use Rattle.spl_tree.specs.steps.Grammar as G
+use Rattle.spl_tree.specs.spellings.Grammar as G
 use Rattle.spl_tree.specs.Trees.{Prefix, placed, Stmt}
-use Rattle.spl_tree.specs.steps.Grammar.{Is}
-use Rattle.spl_tree.specs.steps.Phrases as R
-use Rattle.spl_tree.specs.steps.Phrases.{Row, Separated}
-use Rattle.spl_tree.specs.steps.TypeGrammar.{SpellsType, SpellsShape}
-use Rattle.spl_tree.specs.steps.StatementGrammar.{SpellsPlace, SpellsDeclaration, SpellsStmt, SpellsArms}
-use Rattle.spl_tree.specs.steps.UnitGrammar.{SpellsInvocation, SpellsHead, SpellsInput, SpellsStateClause, SpellsPortWindow, SpellsOutputAssignments, SpellsParameter, SpellsEnd, SpellsHeadPorts, SpellsDefinition, SpellsNamespace, SpellsUnit}
+use Rattle.spl_tree.specs.spellings.Grammar.{Is}
+use Rattle.spl_tree.specs.spellings.Phrases as R
+use Rattle.spl_tree.specs.spellings.Phrases.{Row, Separated}
+use Rattle.spl_tree.specs.spellings.TypeGrammar.{SpellsType, SpellsShape}
+use Rattle.spl_tree.specs.spellings.StatementGrammar.{SpellsPlace, SpellsDeclaration, SpellsStmt, SpellsArms}
+use Rattle.spl_tree.specs.spellings.UnitGrammar.{SpellsInvocation, SpellsHead, SpellsInput, SpellsStateClause, SpellsPortWindow, SpellsOutputAssignments, SpellsParameter, SpellsEnd, SpellsHeadPorts, SpellsDefinition, SpellsNamespace, SpellsUnit}
 use Rattle.spl_tree.specs.Grammar as L
 use Rattle.grammar_laws.specs.Pieces.{Piece, One, one, Name, name, Dollar, dollar, Joined, joined, Nothing, nothing, In, first}
 use Rattle.grammar_laws.specs.ExpressionLines.{placed_at}

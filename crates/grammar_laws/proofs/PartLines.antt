@@ -9,11 +9,11 @@ use Rattle.spl_tree.specs.declared.statement.Declaration.{Declaration}
 use Rattle.spl_tree.specs.declared.symbol.Symbol.TheVariants as S
 use Rattle.spl_tree.specs.declared.token.Token.{Token}
 use Rattle.spl_tree.specs.Trees.{Expr, placed, TypeExpr, Stmt}
-use Rattle.spl_tree.specs.steps.Grammar.{Elements, Steps, Spells}
-use Rattle.spl_tree.specs.steps.TypeGrammar as Q
-use Rattle.spl_tree.specs.steps.TypeGrammar.{SpellsType, SpellsAttributes}
-use Rattle.spl_tree.specs.steps.StatementGrammar as G
-use Rattle.spl_tree.specs.steps.StatementGrammar.{SpellsPlace, SpellsCall, SpellsValue, SpellsMutable, SpellsDeclaration, SpellsStmt, SpellsStmts, SpellsBlock}
+use Rattle.spl_tree.specs.spellings.Grammar.{Elements, Steps, Spells}
+use Rattle.spl_tree.specs.spellings.TypeGrammar as Q
+use Rattle.spl_tree.specs.spellings.TypeGrammar.{SpellsType, SpellsAttributes}
+use Rattle.spl_tree.specs.spellings.StatementGrammar as G
+use Rattle.spl_tree.specs.spellings.StatementGrammar.{SpellsPlace, SpellsCall, SpellsValue, SpellsMutable, SpellsDeclaration, SpellsStmt, SpellsStmts, SpellsBlock}
 use Rattle.grammar_laws.specs.Pieces.{one, word, sign, Name, name, In, joined}
 use Rattle.grammar_laws.specs.Lines.{PartLines}
 

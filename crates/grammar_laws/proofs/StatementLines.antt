@@ -8,9 +8,9 @@ use Rattle.spl_tree.specs.declared.token.Token.{Token}
 use Rattle.spl_tree.specs.declared.token.TokenKind.{TokenKind}
 use Rattle.spl_tree.specs.declared.token.TokenKind.TheVariants as T
 use Rattle.spl_tree.specs.Trees.{Expr, placed, Stmt}
-use Rattle.spl_tree.specs.steps.StatementGrammar as G
+use Rattle.spl_tree.specs.spellings.StatementGrammar as G
 use Rattle.spl_tree.specs.Operators.{assignment_symbol, assignment_of}
-use Rattle.spl_tree.specs.steps.StatementGrammar.{SpellsPlace, variable, taken, SpellsCall, SpellsReturned, no_result, result, SpellsDeclaration, SpellsStmt, SpellsArms, first_arm, next_arm, BeginsAt, begins}
+use Rattle.spl_tree.specs.spellings.StatementGrammar.{SpellsPlace, variable, taken, SpellsCall, SpellsReturned, no_result, result, SpellsDeclaration, SpellsStmt, SpellsArms, first_arm, next_arm, BeginsAt, begins}
 use Rattle.grammar_laws.specs.Pieces.{one, name, joined, first}
 use Rattle.grammar_laws.specs.Lines.{Assigns, plain, add, subtract, multiply, divide, remainder, AssignSign, assign_sign, arms, StatementLine, block, declaration, assignment, call, open_if, if_else, while, for, break, continue, return, return_value, submit, StatementLineLaw, FirstArmLaw, NextArmLaw}
 

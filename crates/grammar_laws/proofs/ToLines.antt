@@ -13,14 +13,14 @@ use Rattle.spl_tree.specs.declared.symbol.Symbol.{Symbol}
 use Rattle.spl_tree.specs.declared.symbol.Symbol.TheVariants as S
 use Rattle.spl_tree.specs.declared.token.Token.{Token}
 use Rattle.spl_tree.specs.declared.token.TokenKind.{TokenKind}
-use Rattle.spl_tree.specs.steps.Grammar as G
+use Rattle.spl_tree.specs.spellings.Grammar as G
 use Rattle.spl_tree.specs.Trees.{Expr, Prefix, placed, TypeExpr, Shape}
-use Rattle.spl_tree.specs.steps.Grammar.{Is, Literal, Primary, Elements, Items, Entries, Fields, Steps, Prefixes, Operand, Unary, At, Spells}
-use Rattle.spl_tree.specs.steps.Phrases as F
-use Rattle.spl_tree.specs.steps.Phrases.{Phrase, IsKeyword, Row, Separated, Listed}
+use Rattle.spl_tree.specs.spellings.Grammar.{Is, Literal, Primary, Elements, Items, Entries, Fields, Steps, Prefixes, Operand, Unary, At, Spells}
+use Rattle.spl_tree.specs.spellings.Phrases as F
+use Rattle.spl_tree.specs.spellings.Phrases.{Phrase, IsKeyword, Row, Separated, Listed}
 use Rattle.spl_tree.specs.Grammar as P
-use Rattle.spl_tree.specs.steps.TypeGrammar as Q
-use Rattle.spl_tree.specs.steps.TypeGrammar.{named, SpellsType, SpellsAttributes, SpellsShape, SpellsFunctionParameters}
+use Rattle.spl_tree.specs.spellings.TypeGrammar as Q
+use Rattle.spl_tree.specs.spellings.TypeGrammar.{named, SpellsType, SpellsAttributes, SpellsShape, SpellsFunctionParameters}
 
 -- ---- phrases one after another
 

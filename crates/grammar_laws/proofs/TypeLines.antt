@@ -3,8 +3,8 @@ use Rattle.std.proofs.Common.{◌≡◌, ℕ, List, [], ◌∷◌, Some, refl}
 use Rattle.spl_tree.specs.declared.shape.TypeKind.{TypeKind}
 use Rattle.spl_tree.specs.declared.token.Token.{Token}
 use Rattle.spl_tree.specs.Trees.{placed, TypeExpr}
-use Rattle.spl_tree.specs.steps.TypeGrammar as G
-use Rattle.spl_tree.specs.steps.TypeGrammar.{SpellsType}
+use Rattle.spl_tree.specs.spellings.TypeGrammar as G
+use Rattle.spl_tree.specs.spellings.TypeGrammar.{SpellsType}
 use Rattle.grammar_laws.specs.Pieces.{one, joined, first}
 use Rattle.grammar_laws.specs.Lines.{TypeLine, boolean, rstring, integer, left_out, name, list, map, tuple, TypeLineLaw}
 

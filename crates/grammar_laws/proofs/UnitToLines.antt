@@ -28,14 +28,14 @@ use Rattle.spl_tree.specs.declared.unit.PortWindow.{PortWindow}
 use Rattle.spl_tree.specs.declared.unit.TypeDefinition.{TypeDefinition}
 use Rattle.spl_tree.specs.declared.unit.WindowPart.{WindowPart}
 use Rattle.spl_tree.specs.Trees.{Expr, placed, Stmt, TypeExpr, Shape}
-use Rattle.spl_tree.specs.steps.Grammar.{Is}
-use Rattle.spl_tree.specs.steps.Phrases.{Phrase}
+use Rattle.spl_tree.specs.spellings.Grammar.{Is}
+use Rattle.spl_tree.specs.spellings.Phrases.{Phrase}
 use Rattle.spl_tree.specs.Grammar as P
-use Rattle.spl_tree.specs.steps.StatementGrammar as G
-use Rattle.spl_tree.specs.steps.StatementGrammar.{SpellsPlace, SpellsCall, SpellsValue, SpellsMutable, SpellsDeclaration, SpellsReturned, BeginsAt, SpellsStmt, SpellsArms, SpellsStmts, SpellsBlock}
-use Rattle.spl_tree.specs.steps.TypeGrammar.{named}
-use Rattle.spl_tree.specs.steps.UnitGrammar as U
-use Rattle.spl_tree.specs.steps.UnitGrammar.{SpellsName, SpellsAlias, SpellsTypeDefinition, SpellsParameter, Clause, PlacedClause, SpellsStream, SpellsOutputStream, SpellsHead, SpellsInput, SpellsStateClause, HandlesEvent, SpellsHandler, SpellsLogic, SpellsWindowPart, SpellsPortWindow, SpellsOutputAssignments, SpellsClauses, SpellsEnd, SpellsInvocation, SpellsHeadPort, SpellsPorts, SpellsPortLists, SpellsHeadPorts, SpellsDefault, SpellsCompositeParameter, SpellsPublic, SpellsComposite, SpellsResultType, SpellsFunction, SpellsDefinition, SpellsNamespace, SpellsUnit}
+use Rattle.spl_tree.specs.spellings.StatementGrammar as G
+use Rattle.spl_tree.specs.spellings.StatementGrammar.{SpellsPlace, SpellsCall, SpellsValue, SpellsMutable, SpellsDeclaration, SpellsReturned, BeginsAt, SpellsStmt, SpellsArms, SpellsStmts, SpellsBlock}
+use Rattle.spl_tree.specs.spellings.TypeGrammar.{named}
+use Rattle.spl_tree.specs.spellings.UnitGrammar as U
+use Rattle.spl_tree.specs.spellings.UnitGrammar.{SpellsName, SpellsAlias, SpellsTypeDefinition, SpellsParameter, Clause, PlacedClause, SpellsStream, SpellsOutputStream, SpellsHead, SpellsInput, SpellsStateClause, HandlesEvent, SpellsHandler, SpellsLogic, SpellsWindowPart, SpellsPortWindow, SpellsOutputAssignments, SpellsClauses, SpellsEnd, SpellsInvocation, SpellsHeadPort, SpellsPorts, SpellsPortLists, SpellsHeadPorts, SpellsDefault, SpellsCompositeParameter, SpellsPublic, SpellsComposite, SpellsResultType, SpellsFunction, SpellsDefinition, SpellsNamespace, SpellsUnit}
 use Rattle.grammar_laws.proofs.ToLines.{by_line, token, at_token, part, last, all_append, between, enclosed, row_next, rows, alone, OneOrMore, one_or_more, separated, listed, elements, items, fields, steps, expression, a_type, shape, function_parameters}
 
 -- ---- statements

@@ -21,7 +21,7 @@ use Rattle.spl_tree.specs.declared.token.Token.{Token}
 use Rattle.spl_tree.specs.declared.token.TokenKind.{TokenKind}
 use Rattle.spl_tree.specs.declared.token.TokenKind.TheVariants as T
 use Rattle.spl_tree.specs.Trees.{Expr, Prefix, placed}
-use Rattle.spl_tree.specs.steps.Grammar.{Primary, Elements, Items, Entries, Fields, Steps, Prefixes, Operand, Unary, At, Spells}
+use Rattle.spl_tree.specs.spellings.Grammar.{Primary, Elements, Items, Entries, Fields, Steps, Prefixes, Operand, Unary, At, Spells}
 use Rattle.grammar_laws.specs.Pieces.{One, word, sign, Name, In, first}
 
 -- ---- primary expressions

@@ -20,9 +20,9 @@ use Rattle.spl_tree.specs.declared.symbol.Symbol.TheVariants as S
 use Rattle.spl_tree.specs.declared.token.Token.{Token}
 use Rattle.spl_tree.specs.declared.token.TokenKind.TheVariants as T
 use Rattle.spl_tree.specs.Trees.{Expr, TypeExpr, Stmt}
-use Rattle.spl_tree.specs.steps.Grammar.{Elements, Steps, Spells}
-use Rattle.spl_tree.specs.steps.TypeGrammar.{SpellsType, SpellsAttributes, SpellsShape, SpellsFunctionParameters}
-use Rattle.spl_tree.specs.steps.StatementGrammar.{SpellsValue, SpellsMutable, SpellsBlock, SpellsPlace, SpellsCall, SpellsDeclaration, SpellsStmt, SpellsStmts, SpellsArms}
+use Rattle.spl_tree.specs.spellings.Grammar.{Elements, Steps, Spells}
+use Rattle.spl_tree.specs.spellings.TypeGrammar.{SpellsType, SpellsAttributes, SpellsShape, SpellsFunctionParameters}
+use Rattle.spl_tree.specs.spellings.StatementGrammar.{SpellsValue, SpellsMutable, SpellsBlock, SpellsPlace, SpellsCall, SpellsDeclaration, SpellsStmt, SpellsStmts, SpellsArms}
 use Rattle.grammar_laws.specs.Pieces.{One, word, sign, Name, In, first}
 
 -- ---- types

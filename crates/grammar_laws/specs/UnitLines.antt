@@ -26,11 +26,11 @@ use Rattle.spl_tree.specs.declared.unit.PortWindow.{PortWindow}
 use Rattle.spl_tree.specs.declared.unit.TypeDefinition.{TypeDefinition}
 use Rattle.spl_tree.specs.declared.unit.WindowPart.{WindowPart}
 use Rattle.spl_tree.specs.Trees.{Expr, TypeExpr, Shape}
-use Rattle.spl_tree.specs.steps.Grammar.{Elements, Items, Fields, Spells}
-use Rattle.spl_tree.specs.steps.Phrases.{Phrase, Row, Separated, Listed}
-use Rattle.spl_tree.specs.steps.TypeGrammar.{SpellsType, SpellsShape, SpellsFunctionParameters}
-use Rattle.spl_tree.specs.steps.StatementGrammar.{SpellsDeclaration, SpellsBlock}
-use Rattle.spl_tree.specs.steps.UnitGrammar.{SpellsName, SpellsAlias, SpellsTypeDefinition, SpellsParameter, Clause, PlacedClause, SpellsStream, SpellsOutputStream, SpellsHead, SpellsInput, SpellsState, SpellsStateClause, SpellsHandler, SpellsLogic, SpellsWindowPart, SpellsPortWindow, SpellsOutputAssignments, SpellsClauses, SpellsEnd, SpellsInvocation, SpellsHeadPort, SpellsPorts, SpellsPortLists, SpellsHeadPorts, SpellsDefault, SpellsCompositeParameter, SpellsPublic, SpellsComposite, SpellsResultType, SpellsFunction, SpellsDefinition, SpellsNamespace, SpellsUnit}
+use Rattle.spl_tree.specs.spellings.Grammar.{Elements, Items, Fields, Spells}
+use Rattle.spl_tree.specs.spellings.Phrases.{Phrase, Row, Separated, Listed}
+use Rattle.spl_tree.specs.spellings.TypeGrammar.{SpellsType, SpellsShape, SpellsFunctionParameters}
+use Rattle.spl_tree.specs.spellings.StatementGrammar.{SpellsDeclaration, SpellsBlock}
+use Rattle.spl_tree.specs.spellings.UnitGrammar.{SpellsName, SpellsAlias, SpellsTypeDefinition, SpellsParameter, Clause, PlacedClause, SpellsStream, SpellsOutputStream, SpellsHead, SpellsInput, SpellsState, SpellsStateClause, SpellsHandler, SpellsLogic, SpellsWindowPart, SpellsPortWindow, SpellsOutputAssignments, SpellsClauses, SpellsEnd, SpellsInvocation, SpellsHeadPort, SpellsPorts, SpellsPortLists, SpellsHeadPorts, SpellsDefault, SpellsCompositeParameter, SpellsPublic, SpellsComposite, SpellsResultType, SpellsFunction, SpellsDefinition, SpellsNamespace, SpellsUnit}
 use Rattle.grammar_laws.specs.Pieces.{word, sign, Name, Dollar, In, Nothing, first}
 
 -- ---- clauses

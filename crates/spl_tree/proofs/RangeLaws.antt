@@ -29,9 +29,9 @@ use Rattle.spl_tree.specs.Tokens.{Refusal, is_word, word_kind, number_kind, digi
 use Rattle.spl_tree.specs.Laws.{Cut, done, gap, token}
 use Rattle.spl_tree.proofs.CutLaws.{cut_law}
 use Rattle.spl_tree.proofs.TokenLaws.{kind_in}
-use Rattle.spl_tree.specs.steps.Grammar as G
+use Rattle.spl_tree.specs.spellings.Grammar as G
 use Rattle.spl_tree.specs.Trees.{Expr, placed}
-use Rattle.spl_tree.specs.steps.Grammar.{Literal, Primary, Elements, Items, Entries, Fields, Steps, Operand, Unary, At, Spells}
+use Rattle.spl_tree.specs.spellings.Grammar.{Literal, Primary, Elements, Items, Entries, Fields, Steps, Operand, Unary, At, Spells}
 use Rattle.spl_tree.specs.Ranges.{number_in_range, step_in_range, level_in_range, in_range}
 use Rattle.spl_value.proofs.Lists.{all_left, all_right, all_more}
 

@@ -12,11 +12,11 @@ use Rattle.spl_tree.specs.declared.token.TokenKind.TheVariants as T
 use Rattle.spl_tree.specs.declared.expression.ExprKind.TheVariants as X
 use Rattle.spl_tree.specs.declared.statement.StmtKind.TheVariants as Z
 use Rattle.spl_tree.specs.Trees.{placed}
-use Rattle.spl_tree.specs.steps.Grammar.{Spells, plain, tighter, unary, operand, primary, name, first_item}
-use Rattle.spl_tree.specs.steps.Phrases as R
-use Rattle.spl_tree.specs.steps.TypeGrammar as Y
-use Rattle.spl_tree.specs.steps.StatementGrammar as Q
-use Rattle.spl_tree.specs.steps.UnitGrammar as U
+use Rattle.spl_tree.specs.spellings.Grammar.{Spells, plain, tighter, unary, operand, primary, name, first_item}
+use Rattle.spl_tree.specs.spellings.Phrases as R
+use Rattle.spl_tree.specs.spellings.TypeGrammar as Y
+use Rattle.spl_tree.specs.spellings.StatementGrammar as Q
+use Rattle.spl_tree.specs.spellings.UnitGrammar as U
 use Rattle.spl_tree.specs.examples.Units.{type_of_two, inner_if, nearest_else, alias_alone}
 
 abbrev pub token : TokenKind → ℕ → ℕ → Token

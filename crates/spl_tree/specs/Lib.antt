@@ -11,5 +11,5 @@ pub mod Selections
 pub mod Ranges
 pub mod Laws
 pub mod TokenLaws
-pub mod steps
+pub mod spellings
 pub mod examples

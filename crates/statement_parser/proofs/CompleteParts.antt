@@ -11,8 +11,8 @@ use Rattle.spl_tree.specs.declared.token.TokenKind.TheVariants as T
 use Rattle.spl_tree.specs.Words.{symbol_text, keyword_word, keyword_of}
 use Rattle.spl_tree.proofs.WordLaws.{keywords_law}
 use Rattle.spl_tree.specs.Trees.{Expr}
-use Rattle.spl_tree.specs.steps.Grammar.{Is, Spells}
-use Rattle.spl_tree.specs.steps.Phrases.{IsKeyword, Phrase, Row, none, more, Separated, first, next}
+use Rattle.spl_tree.specs.spellings.Grammar.{Is, Spells}
+use Rattle.spl_tree.specs.spellings.Phrases.{IsKeyword, Phrase, Row, none, more, Separated, first, next}
 use Rattle.expr_parser.specs.Rules.{Rule, done, stop, look, call, RuleResult, Took, Refused, Spent, Reader, and_then, run, read, RunsTo, Reads}
 use Rattle.expr_parser.proofs.RuleLaws.{runs_done, runs_take, runs_skip, runs_call}
 use Rattle.expr_parser.specs.Taken.{begins_with}

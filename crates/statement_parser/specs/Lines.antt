@@ -41,7 +41,7 @@ use Rattle.spl_tree.specs.declared.unit.WindowPart.{WindowPart}
 use Rattle.spl_tree.specs.Words.{keyword_word}
 use Rattle.spl_tree.specs.Trees.{Expr, placed, Stmt, TypeExpr, Shape}
 use Rattle.spl_tree.specs.Operators.{assignment_of}
-use Rattle.spl_tree.specs.steps.TypeGrammar.{named}
+use Rattle.spl_tree.specs.spellings.TypeGrammar.{named}
 use Rattle.expr_parser.specs.Rules.{Rule, done, stop, look, call}
 use Rattle.expr_parser.specs.Lines as expressions
 use Rattle.expr_parser.specs.Lines.{is, is_name, name_of}

@@ -9,11 +9,11 @@ use Rattle.spl_tree.specs.declared.unit.Definition.{Definition}
 use Rattle.spl_tree.specs.declared.unit.Definition.TheVariants as D
 use Rattle.spl_tree.specs.declared.unit.FunctionDefinition.{FunctionDefinition}
 use Rattle.spl_tree.specs.Trees.{placed, TypeExpr, Stmt}
-use Rattle.spl_tree.specs.steps.Grammar.{Is, Names}
-use Rattle.spl_tree.specs.steps.Phrases.{Row, Separated, first, next}
-use Rattle.spl_tree.specs.steps.TypeGrammar.{SpellsFunctionParameters}
-use Rattle.spl_tree.specs.steps.StatementGrammar.{SpellsBlock}
-use Rattle.spl_tree.specs.steps.UnitGrammar.{SpellsName, name, SpellsPublic, not_public, public, SpellsComposite, composite, SpellsResultType, void, a_type, SpellsFunction, function, SpellsDefinition, a_typedef, a_function, a_composite, SpellsNamespace, no_namespace, namespace, SpellsUnit, unit}
+use Rattle.spl_tree.specs.spellings.Grammar.{Is, Names}
+use Rattle.spl_tree.specs.spellings.Phrases.{Row, Separated, first, next}
+use Rattle.spl_tree.specs.spellings.TypeGrammar.{SpellsFunctionParameters}
+use Rattle.spl_tree.specs.spellings.StatementGrammar.{SpellsBlock}
+use Rattle.spl_tree.specs.spellings.UnitGrammar.{SpellsName, name, SpellsPublic, not_public, public, SpellsComposite, composite, SpellsResultType, void, a_type, SpellsFunction, function, SpellsDefinition, a_typedef, a_function, a_composite, SpellsNamespace, no_namespace, namespace, SpellsUnit, unit}
 use Rattle.expr_parser.specs.Rules.{done, look, call, Took, RunsTo, Reads}
 use Rattle.expr_parser.proofs.RuleLaws.{line, runs_done, runs_call}
 use Rattle.expr_parser.specs.Taken.{begins_with}

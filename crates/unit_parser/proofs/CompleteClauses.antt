@@ -18,10 +18,10 @@ use Rattle.spl_tree.specs.declared.unit.PortWindow.{PortWindow}
 use Rattle.spl_tree.specs.declared.unit.WindowPart.{WindowPart}
 use Rattle.spl_tree.specs.Operators.{is_symbol}
 use Rattle.spl_tree.specs.Trees.{Expr, placed}
-use Rattle.spl_tree.specs.steps.Grammar.{Is, Fields, first_field, next_field}
-use Rattle.spl_tree.specs.steps.Phrases.{IsKeyword, Phrase, Row, Separated}
-use Rattle.spl_tree.specs.steps.StatementGrammar.{SpellsDeclaration}
-use Rattle.spl_tree.specs.steps.UnitGrammar.{Clause, no_clause, clause, PlacedClause, absent, placed_clause, SpellsParameter, parameter, SpellsState, one_variable, variables, SpellsStateClause, no_state, state, on_tuple, on_punctuation, SpellsHandler, handler, SpellsLogic, no_logic, logic, SpellsWindowPart, word, with_arguments, SpellsPortWindow, port_window, SpellsOutputAssignments, output_assignments, SpellsClauses, clauses, SpellsEnd, no_clauses, in_braces}
+use Rattle.spl_tree.specs.spellings.Grammar.{Is, Fields, first_field, next_field}
+use Rattle.spl_tree.specs.spellings.Phrases.{IsKeyword, Phrase, Row, Separated}
+use Rattle.spl_tree.specs.spellings.StatementGrammar.{SpellsDeclaration}
+use Rattle.spl_tree.specs.spellings.UnitGrammar.{Clause, no_clause, clause, PlacedClause, absent, placed_clause, SpellsParameter, parameter, SpellsState, one_variable, variables, SpellsStateClause, no_state, state, on_tuple, on_punctuation, SpellsHandler, handler, SpellsLogic, no_logic, logic, SpellsWindowPart, word, with_arguments, SpellsPortWindow, port_window, SpellsOutputAssignments, output_assignments, SpellsClauses, clauses, SpellsEnd, no_clauses, in_braces}
 use Rattle.expr_parser.specs.Rules.{done, look, call, Took, RunsTo, Reads}
 use Rattle.expr_parser.proofs.RuleLaws.{line, runs_done, runs_take, runs_skip, runs_call}
 use Rattle.expr_parser.specs.Taken.{begins_with}

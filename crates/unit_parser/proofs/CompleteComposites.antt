@@ -10,9 +10,9 @@ use Rattle.spl_tree.specs.declared.unit.Invocation.{Invocation}
 use Rattle.spl_tree.specs.declared.unit.Parameter.{Parameter}
 use Rattle.spl_tree.specs.declared.unit.TypeDefinition.{TypeDefinition}
 use Rattle.spl_tree.specs.Trees.{Expr, placed, TypeExpr}
-use Rattle.spl_tree.specs.steps.Grammar.{Is, Names}
-use Rattle.spl_tree.specs.steps.Phrases.{Row, Separated}
-use Rattle.spl_tree.specs.steps.UnitGrammar.{Clause, SpellsTypeDefinition, type_definition, SpellsParameter, stream, SpellsInvocation, SpellsHeadPort, untyped, typed, ports, SpellsPortLists, outputs_alone, inputs_alone, outputs_first, inputs_first, SpellsHeadPorts, no_ports, in_parentheses, SpellsDefault, no_default, default, SpellsCompositeParameter, composite_parameter}
+use Rattle.spl_tree.specs.spellings.Grammar.{Is, Names}
+use Rattle.spl_tree.specs.spellings.Phrases.{Row, Separated}
+use Rattle.spl_tree.specs.spellings.UnitGrammar.{Clause, SpellsTypeDefinition, type_definition, SpellsParameter, stream, SpellsInvocation, SpellsHeadPort, untyped, typed, ports, SpellsPortLists, outputs_alone, inputs_alone, outputs_first, inputs_first, SpellsHeadPorts, no_ports, in_parentheses, SpellsDefault, no_default, default, SpellsCompositeParameter, composite_parameter}
 use Rattle.expr_parser.specs.Rules.{done, look, call, Took, RunsTo, Reads}
 use Rattle.expr_parser.proofs.RuleLaws.{line, runs_done, runs_call}
 use Rattle.expr_parser.specs.Taken.{begins_with}

@@ -8,10 +8,10 @@ use Rattle.spl_tree.specs.declared.token.TokenKind.{TokenKind}
 use Rattle.spl_tree.specs.declared.unit.InputPort.{InputPort}
 use Rattle.spl_tree.specs.declared.unit.Invocation.{Invocation}
 use Rattle.spl_tree.specs.declared.unit.OutputStream.{OutputStream}
-use Rattle.spl_tree.specs.steps.Grammar.{Is}
-use Rattle.spl_tree.specs.steps.Phrases.{IsKeyword, Phrase, Row, Separated, first, next, Listed, empty, some}
-use Rattle.spl_tree.specs.steps.StatementGrammar.{BeginsAt, begins}
-use Rattle.spl_tree.specs.steps.UnitGrammar.{SpellsName, name, SpellsAlias, no_alias, alias, stream, SpellsOutputStream, output, SpellsHead, one_stream, streams, no_stream, SpellsInput, input, SpellsInvocation, invocation}
+use Rattle.spl_tree.specs.spellings.Grammar.{Is}
+use Rattle.spl_tree.specs.spellings.Phrases.{IsKeyword, Phrase, Row, Separated, first, next, Listed, empty, some}
+use Rattle.spl_tree.specs.spellings.StatementGrammar.{BeginsAt, begins}
+use Rattle.spl_tree.specs.spellings.UnitGrammar.{SpellsName, name, SpellsAlias, no_alias, alias, stream, SpellsOutputStream, output, SpellsHead, one_stream, streams, no_stream, SpellsInput, input, SpellsInvocation, invocation}
 use Rattle.expr_parser.specs.Rules.{done, look, call, Took, RunsTo, Reads}
 use Rattle.expr_parser.proofs.RuleLaws.{line, runs_done, runs_call}
 use Rattle.expr_parser.specs.Taken.{begins_with}

@@ -15,9 +15,9 @@ use Rattle.spl_tree.specs.declared.token.TokenKind.{TokenKind}
 use Rattle.spl_tree.specs.declared.token.TokenKind.TheVariants as T
 use Rattle.spl_tree.specs.Operators.{is_symbol, assignment_symbol, assignment_of}
 use Rattle.spl_tree.specs.Trees.{Expr, placed, TypeExpr, Stmt, IsNoIf}
-use Rattle.spl_tree.specs.steps.Grammar.{Is, Names, Spells, Steps, no_steps, member, index}
-use Rattle.spl_tree.specs.steps.TypeGrammar.{SpellsType, boolean, rstring, int, left_out, name, list, map, tuple}
-use Rattle.spl_tree.specs.steps.StatementGrammar.{SpellsPlace, variable, taken, SpellsCall, call, SpellsValue, no_value, value, SpellsMutable, constant, mutable, SpellsDeclaration, declaration, SpellsReturned, no_result, result, BeginsAt, begins, SpellsStmt, block, declare, assign, call_alone, if_alone, if_else, while, for, break, continue, return, submit, SpellsArms, first_arm, next_arm, SpellsStmts, no_statements, more_statements, SpellsBlock, block_of}
+use Rattle.spl_tree.specs.spellings.Grammar.{Is, Names, Spells, Steps, no_steps, member, index}
+use Rattle.spl_tree.specs.spellings.TypeGrammar.{SpellsType, boolean, rstring, int, left_out, name, list, map, tuple}
+use Rattle.spl_tree.specs.spellings.StatementGrammar.{SpellsPlace, variable, taken, SpellsCall, call, SpellsValue, no_value, value, SpellsMutable, constant, mutable, SpellsDeclaration, declaration, SpellsReturned, no_result, result, BeginsAt, begins, SpellsStmt, block, declare, assign, call_alone, if_alone, if_else, while, for, break, continue, return, submit, SpellsArms, first_arm, next_arm, SpellsStmts, no_statements, more_statements, SpellsBlock, block_of}
 use Rattle.expr_parser.specs.Rules.{done, look, Took, RunsTo, Reads}
 use Rattle.expr_parser.proofs.RuleLaws.{line, runs_done, runs_call}
 use Rattle.expr_parser.specs.Taken.{begins_with}

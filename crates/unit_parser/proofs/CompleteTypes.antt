@@ -11,12 +11,12 @@ use Rattle.spl_tree.specs.declared.token.TokenKind.{TokenKind}
 use Rattle.spl_tree.specs.declared.token.TokenKind.TheVariants as T
 use Rattle.spl_tree.specs.Operators.{is_symbol}
 use Rattle.spl_tree.specs.Trees.{placed, TypeExpr, Shape}
-use Rattle.spl_tree.specs.steps.Grammar.{Is}
-use Rattle.spl_tree.specs.steps.StatementGrammar.{BeginsAt, begins}
-use Rattle.spl_tree.specs.steps.TypeGrammar.{named, SpellsType, boolean, rstring, int, left_out, name, list, map, tuple, SpellsAttributes, first_attribute, next_attribute, SpellsShape, plain, attributes, SpellsFunctionParameters, no_parameters, parameters}
+use Rattle.spl_tree.specs.spellings.Grammar.{Is}
+use Rattle.spl_tree.specs.spellings.StatementGrammar.{BeginsAt, begins}
+use Rattle.spl_tree.specs.spellings.TypeGrammar.{named, SpellsType, boolean, rstring, int, left_out, name, list, map, tuple, SpellsAttributes, first_attribute, next_attribute, SpellsShape, plain, attributes, SpellsFunctionParameters, no_parameters, parameters}
 use Rattle.expr_parser.specs.Rules.{done, stop, RuleResult, Took, RunsTo, Reads}
 use Rattle.expr_parser.proofs.RuleLaws.{line, runs_done, runs_call}
-use Rattle.spl_tree.specs.steps.Phrases.{IsKeyword}
+use Rattle.spl_tree.specs.spellings.Phrases.{IsKeyword}
 use Rattle.statement_parser.specs.Lines.{rule, R, is_type, type_of, a_type, TypeExpression, ListType, MapType, TupleType, Attributes, MoreAttributes, Shaped, FunctionParameters}
 use Rattle.statement_parser.proofs.CompleteParts.{Heads, no_symbol, takes, skips, expects, only}
 

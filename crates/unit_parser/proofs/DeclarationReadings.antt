@@ -3,7 +3,7 @@ use Rattle.std.proofs.Common.{◌<◌, List, [], ◌∷◌, ◌++◌, length, ap
 use Rattle.std.proofs.lemmas.List.{length-append}
 use Rattle.spl_tree.specs.declared.statement.Declaration.{Declaration}
 use Rattle.spl_tree.specs.declared.token.Token.{Token}
-use Rattle.spl_tree.specs.steps.StatementGrammar.{SpellsDeclaration, declaration}
+use Rattle.spl_tree.specs.spellings.StatementGrammar.{SpellsDeclaration, declaration}
 use Rattle.expr_parser.specs.Rules.{Took, Reads}
 use Rattle.expr_parser.proofs.Soundness.{Sound}
 use Rattle.statement_parser.specs.Lines.{Declare, rule}

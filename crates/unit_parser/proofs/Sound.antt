@@ -1,7 +1,7 @@
 -- What is read of units is spelled so.
 use Rattle.std.proofs.Common.{ℕ, List}
 use Rattle.spl_tree.specs.declared.token.Token.{Token}
-use Rattle.spl_tree.specs.steps.UnitGrammar.{SpellsUnit}
+use Rattle.spl_tree.specs.spellings.UnitGrammar.{SpellsUnit}
 use Rattle.expr_parser.specs.Rules.{read}
 use Rattle.expr_parser.proofs.Soundness.{Sound, sound as sound_lines}
 use Rattle.statement_parser.specs.Lines as lines

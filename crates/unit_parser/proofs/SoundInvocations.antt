@@ -17,12 +17,12 @@ use Rattle.spl_tree.specs.declared.unit.Parameter.{Parameter}
 use Rattle.spl_tree.specs.declared.unit.PortWindow.{PortWindow}
 use Rattle.spl_tree.specs.declared.unit.WindowPart.{WindowPart}
 use Rattle.spl_tree.specs.Trees.{Expr, placed, Shape}
-use Rattle.spl_tree.specs.steps.Grammar.{Is, Names, Elements, Items, first_item, Fields, first_field, next_field}
-use Rattle.spl_tree.specs.steps.Phrases.{IsKeyword, Row, none, Separated, Listed, empty, some}
-use Rattle.spl_tree.specs.steps.TypeGrammar.{SpellsShape}
-use Rattle.spl_tree.specs.steps.StatementGrammar.{SpellsDeclaration, BeginsAt}
-use Rattle.spl_tree.specs.steps.UnitGrammar as units
-use Rattle.spl_tree.specs.steps.UnitGrammar.{SpellsName, SpellsAlias, SpellsParameter, parameter, no_clause, clause, absent, placed_clause, SpellsStream, SpellsOutputStream, SpellsHead, SpellsInput, SpellsState, SpellsWindowPart, SpellsPortWindow, port_window, SpellsOutputAssignments, output_assignments, SpellsEnd, SpellsInvocation}
+use Rattle.spl_tree.specs.spellings.Grammar.{Is, Names, Elements, Items, first_item, Fields, first_field, next_field}
+use Rattle.spl_tree.specs.spellings.Phrases.{IsKeyword, Row, none, Separated, Listed, empty, some}
+use Rattle.spl_tree.specs.spellings.TypeGrammar.{SpellsShape}
+use Rattle.spl_tree.specs.spellings.StatementGrammar.{SpellsDeclaration, BeginsAt}
+use Rattle.spl_tree.specs.spellings.UnitGrammar as units
+use Rattle.spl_tree.specs.spellings.UnitGrammar.{SpellsName, SpellsAlias, SpellsParameter, parameter, no_clause, clause, absent, placed_clause, SpellsStream, SpellsOutputStream, SpellsHead, SpellsInput, SpellsState, SpellsWindowPart, SpellsPortWindow, port_window, SpellsOutputAssignments, output_assignments, SpellsEnd, SpellsInvocation}
 use Rattle.expr_parser.specs.Lines.{name_of}
 use Rattle.expr_parser.specs.Parts.{Closed, closed}
 use Rattle.statement_parser.specs.Lines as lines

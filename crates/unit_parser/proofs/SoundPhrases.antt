@@ -9,11 +9,11 @@ use Rattle.spl_tree.specs.declared.symbol.Symbol.TheVariants as S
 use Rattle.spl_tree.specs.declared.token.Token.{Token}
 use Rattle.spl_tree.specs.declared.unit.WindowPart.{WindowPart}
 use Rattle.spl_tree.specs.Trees.{Expr, placed, TypeExpr, Stmt, IsNoIf}
-use Rattle.spl_tree.specs.steps.Grammar.{Is, Names, Fields, Spells}
-use Rattle.spl_tree.specs.steps.Phrases.{Phrase, IsKeyword, Row, Separated, Listed}
-use Rattle.spl_tree.specs.steps.TypeGrammar.{named, SpellsType, SpellsAttributes, SpellsShape, SpellsFunctionParameters}
-use Rattle.spl_tree.specs.steps.StatementGrammar.{SpellsMutable, SpellsDeclaration, SpellsStmt, SpellsArms, SpellsStmts, SpellsBlock, BeginsAt}
-use Rattle.spl_tree.specs.steps.UnitGrammar.{SpellsName, SpellsAlias, SpellsTypeDefinition, SpellsParameter, Clause, PlacedClause, SpellsOutputStream, SpellsHead, SpellsInput, SpellsStateClause, HandlesEvent, SpellsHandler, SpellsLogic, SpellsWindowPart, SpellsPortWindow, SpellsOutputAssignments, SpellsEnd, SpellsInvocation, SpellsHeadPort, SpellsHeadPorts, SpellsDefault, SpellsCompositeParameter, SpellsPublic, SpellsComposite, SpellsResultType, SpellsFunction, SpellsDefinition, SpellsNamespace, SpellsUnit}
+use Rattle.spl_tree.specs.spellings.Grammar.{Is, Names, Fields, Spells}
+use Rattle.spl_tree.specs.spellings.Phrases.{Phrase, IsKeyword, Row, Separated, Listed}
+use Rattle.spl_tree.specs.spellings.TypeGrammar.{named, SpellsType, SpellsAttributes, SpellsShape, SpellsFunctionParameters}
+use Rattle.spl_tree.specs.spellings.StatementGrammar.{SpellsMutable, SpellsDeclaration, SpellsStmt, SpellsArms, SpellsStmts, SpellsBlock, BeginsAt}
+use Rattle.spl_tree.specs.spellings.UnitGrammar.{SpellsName, SpellsAlias, SpellsTypeDefinition, SpellsParameter, Clause, PlacedClause, SpellsOutputStream, SpellsHead, SpellsInput, SpellsStateClause, HandlesEvent, SpellsHandler, SpellsLogic, SpellsWindowPart, SpellsPortWindow, SpellsOutputAssignments, SpellsEnd, SpellsInvocation, SpellsHeadPort, SpellsHeadPorts, SpellsDefault, SpellsCompositeParameter, SpellsPublic, SpellsComposite, SpellsResultType, SpellsFunction, SpellsDefinition, SpellsNamespace, SpellsUnit}
 use Rattle.expr_parser.specs.Parts.{Closed}
 use Rattle.expr_parser.proofs.Sound as sound
 use Rattle.expr_parser.proofs.Soundness.{After}

@@ -6,10 +6,10 @@ use Rattle.spl_tree.specs.declared.symbol.Symbol.{Symbol}
 use Rattle.spl_tree.specs.declared.symbol.Symbol.TheVariants as S
 use Rattle.spl_tree.specs.declared.token.Token.{Token}
 use Rattle.spl_tree.specs.declared.token.TokenKind.TheVariants as T
-use Rattle.spl_tree.specs.steps.Grammar.{Is, Names}
-use Rattle.spl_tree.specs.steps.Phrases.{Phrase, IsKeyword, Row, more, Separated, first, next}
+use Rattle.spl_tree.specs.spellings.Grammar.{Is, Names}
+use Rattle.spl_tree.specs.spellings.Phrases.{Phrase, IsKeyword, Row, more, Separated, first, next}
 use Rattle.spl_tree.specs.Trees.{TypeExpr}
-use Rattle.spl_tree.specs.steps.TypeGrammar.{SpellsType}
+use Rattle.spl_tree.specs.spellings.TypeGrammar.{SpellsType}
 use Rattle.spl_tree.specs.Operators.{assignment_of}
 use Rattle.expr_parser.specs.Rules.{Rule, done, stop, look, call}
 use Rattle.spl_tree.specs.Fronts.{Starts}

@@ -14,14 +14,14 @@ use Rattle.spl_tree.specs.declared.token.TokenKind.{TokenKind}
 use Rattle.spl_tree.specs.declared.token.TokenKind.TheVariants as T
 use Rattle.spl_tree.specs.declared.unit.OutputStream.{OutputStream}
 use Rattle.spl_tree.specs.Trees.{Expr, placed, TypeExpr, Shape, Stmt}
-use Rattle.spl_tree.specs.steps.Grammar.{Is, Spells, no_elements}
-use Rattle.spl_tree.specs.steps.Phrases.{Phrase, IsKeyword, none, first, empty}
-use Rattle.spl_tree.specs.steps.TypeGrammar as types
-use Rattle.spl_tree.specs.steps.TypeGrammar.{SpellsType, SpellsShape, no_parameters}
-use Rattle.spl_tree.specs.steps.StatementGrammar as statements
-use Rattle.spl_tree.specs.steps.StatementGrammar.{SpellsMutable, SpellsValue, SpellsDeclaration, declaration, SpellsStmt, constant, no_value, no_statements, block_of}
-use Rattle.spl_tree.specs.steps.UnitGrammar as units
-use Rattle.spl_tree.specs.steps.UnitGrammar.{SpellsName, SpellsOutputStream}
+use Rattle.spl_tree.specs.spellings.Grammar.{Is, Spells, no_elements}
+use Rattle.spl_tree.specs.spellings.Phrases.{Phrase, IsKeyword, none, first, empty}
+use Rattle.spl_tree.specs.spellings.TypeGrammar as types
+use Rattle.spl_tree.specs.spellings.TypeGrammar.{SpellsType, SpellsShape, no_parameters}
+use Rattle.spl_tree.specs.spellings.StatementGrammar as statements
+use Rattle.spl_tree.specs.spellings.StatementGrammar.{SpellsMutable, SpellsValue, SpellsDeclaration, declaration, SpellsStmt, constant, no_value, no_statements, block_of}
+use Rattle.spl_tree.specs.spellings.UnitGrammar as units
+use Rattle.spl_tree.specs.spellings.UnitGrammar.{SpellsName, SpellsOutputStream}
 use Rattle.expr_parser.specs.Lines as expression_lines
 use Rattle.spl_tree.specs.Fronts.{Starts}
 use Rattle.expr_parser.specs.Parts.{Closed, closed}

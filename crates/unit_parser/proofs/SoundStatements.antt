@@ -9,15 +9,15 @@ use Rattle.spl_tree.specs.declared.statement.StmtKind.TheVariants as Z
 use Rattle.spl_tree.specs.declared.symbol.Symbol.TheVariants as S
 use Rattle.spl_tree.specs.declared.token.Token.{Token}
 use Rattle.spl_tree.specs.Trees.{Expr, placed, TypeExpr, Stmt, IsNoIf}
-use Rattle.spl_tree.specs.steps.Grammar.{Is, Names, Elements, no_steps, Spells}
-use Rattle.spl_tree.specs.steps.Phrases.{IsKeyword, more}
-use Rattle.spl_tree.specs.steps.TypeGrammar as types
-use Rattle.spl_tree.specs.steps.TypeGrammar.{SpellsType}
-use Rattle.spl_tree.specs.steps.StatementGrammar as statements
+use Rattle.spl_tree.specs.spellings.Grammar.{Is, Names, Elements, no_steps, Spells}
+use Rattle.spl_tree.specs.spellings.Phrases.{IsKeyword, more}
+use Rattle.spl_tree.specs.spellings.TypeGrammar as types
+use Rattle.spl_tree.specs.spellings.TypeGrammar.{SpellsType}
+use Rattle.spl_tree.specs.spellings.StatementGrammar as statements
 use Rattle.spl_tree.specs.Operators.{assignment_of}
-use Rattle.spl_tree.specs.steps.StatementGrammar.{SpellsPlace, variable, taken, no_value, SpellsMutable, constant, mutable, SpellsDeclaration, BeginsAt, begins, SpellsStmt, SpellsArms, first_arm, next_arm, SpellsStmts, no_statements, more_statements, SpellsBlock, block_of}
-use Rattle.spl_tree.specs.steps.UnitGrammar as units
-use Rattle.spl_tree.specs.steps.UnitGrammar.{SpellsName}
+use Rattle.spl_tree.specs.spellings.StatementGrammar.{SpellsPlace, variable, taken, no_value, SpellsMutable, constant, mutable, SpellsDeclaration, BeginsAt, begins, SpellsStmt, SpellsArms, first_arm, next_arm, SpellsStmts, no_statements, more_statements, SpellsBlock, block_of}
+use Rattle.spl_tree.specs.spellings.UnitGrammar as units
+use Rattle.spl_tree.specs.spellings.UnitGrammar.{SpellsName}
 use Rattle.expr_parser.specs.Lines.{name_of}
 use Rattle.expr_parser.specs.Parts.{Closed, closed, SpellsSteps, alone, selects}
 use Rattle.expr_parser.proofs.Soundness.{After}

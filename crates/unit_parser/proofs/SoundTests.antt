@@ -8,7 +8,7 @@ use Rattle.spl_tree.specs.declared.token.Token.{Token}
 use Rattle.spl_tree.specs.declared.token.TokenKind.{TokenKind}
 use Rattle.spl_tree.specs.declared.token.TokenKind.TheVariants as T
 use Rattle.spl_tree.specs.Trees.{placed}
-use Rattle.spl_tree.specs.steps.TypeGrammar.{SpellsType, boolean, rstring, int, left_out, name}
+use Rattle.spl_tree.specs.spellings.TypeGrammar.{SpellsType, boolean, rstring, int, left_out, name}
 use Rattle.spl_tree.specs.Operators.{assignment_of}
 use Rattle.statement_parser.specs.Lines.{keyword_type, type_kind, is_type, type_of, dollar_kind, is_dollar, is_assignment, assignment_at}
 use Rattle.expr_parser.proofs.TestLaws.{unwrap_or-is_some}

@@ -8,10 +8,10 @@ use Rattle.spl_tree.specs.declared.symbol.Symbol.{Symbol}
 use Rattle.spl_tree.specs.declared.symbol.Symbol.TheVariants as S
 use Rattle.spl_tree.specs.declared.token.Token.{Token}
 use Rattle.spl_tree.specs.Trees.{placed, TypeExpr}
-use Rattle.spl_tree.specs.steps.Grammar.{Is}
-use Rattle.spl_tree.specs.steps.Phrases.{IsKeyword}
-use Rattle.spl_tree.specs.steps.TypeGrammar.{named, SpellsType, list, map, tuple, SpellsAttributes, first_attribute, next_attribute, SpellsShape, plain, attributes}
-use Rattle.spl_tree.specs.steps.StatementGrammar.{BeginsAt, begins}
+use Rattle.spl_tree.specs.spellings.Grammar.{Is}
+use Rattle.spl_tree.specs.spellings.Phrases.{IsKeyword}
+use Rattle.spl_tree.specs.spellings.TypeGrammar.{named, SpellsType, list, map, tuple, SpellsAttributes, first_attribute, next_attribute, SpellsShape, plain, attributes}
+use Rattle.spl_tree.specs.spellings.StatementGrammar.{BeginsAt, begins}
 use Rattle.expr_parser.specs.Rules.{done}
 use Rattle.expr_parser.specs.Lines as expressions
 use Rattle.expr_parser.specs.Lines.{name_of}

@@ -12,12 +12,12 @@ use Rattle.spl_tree.specs.declared.unit.Definition.TheVariants as D
 use Rattle.spl_tree.specs.declared.unit.HeadPort.{HeadPort}
 use Rattle.spl_tree.specs.declared.unit.Invocation.{Invocation}
 use Rattle.spl_tree.specs.declared.unit.TypeDefinition.{TypeDefinition}
-use Rattle.spl_tree.specs.steps.Grammar.{Is, Names}
-use Rattle.spl_tree.specs.steps.Phrases.{IsKeyword, none}
+use Rattle.spl_tree.specs.spellings.Grammar.{Is, Names}
+use Rattle.spl_tree.specs.spellings.Phrases.{IsKeyword, none}
 use Rattle.spl_tree.specs.Trees.{TypeExpr, Shape, Stmt}
-use Rattle.spl_tree.specs.steps.TypeGrammar.{SpellsType, SpellsAttributes, SpellsShape, SpellsFunctionParameters, no_parameters, parameters}
-use Rattle.spl_tree.specs.steps.StatementGrammar.{SpellsBlock, begins}
-use Rattle.spl_tree.specs.steps.UnitGrammar.{SpellsTypeDefinition, type_definition, no_clause, clause, untyped, typed, SpellsPorts, ports, SpellsHeadPorts, outputs_alone, inputs_alone, outputs_first, inputs_first, no_ports, in_parentheses, no_default, default, composite_parameter, not_public, public, composite, SpellsResultType, void, a_type, SpellsFunction, function, a_typedef, a_function, a_composite, no_namespace, namespace, unit}
+use Rattle.spl_tree.specs.spellings.TypeGrammar.{SpellsType, SpellsAttributes, SpellsShape, SpellsFunctionParameters, no_parameters, parameters}
+use Rattle.spl_tree.specs.spellings.StatementGrammar.{SpellsBlock, begins}
+use Rattle.spl_tree.specs.spellings.UnitGrammar.{SpellsTypeDefinition, type_definition, no_clause, clause, untyped, typed, SpellsPorts, ports, SpellsHeadPorts, outputs_alone, inputs_alone, outputs_first, inputs_first, no_ports, in_parentheses, no_default, default, composite_parameter, not_public, public, composite, SpellsResultType, void, a_type, SpellsFunction, function, a_typedef, a_function, a_composite, no_namespace, namespace, unit}
 use Rattle.expr_parser.specs.Rules.{call, done}
 use Rattle.expr_parser.specs.Lines.{name_of}
 use Rattle.expr_parser.specs.Parts.{Closed, closed}

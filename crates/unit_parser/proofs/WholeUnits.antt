@@ -2,7 +2,7 @@
 use Rattle.std.proofs.Common.{◌≡◌, List}
 use Rattle.spl_tree.specs.declared.token.Token.{Token}
 use Rattle.spl_tree.specs.declared.unit.Definition.{Definition}
-use Rattle.spl_tree.specs.steps.UnitGrammar.{SpellsUnit}
+use Rattle.spl_tree.specs.spellings.UnitGrammar.{SpellsUnit}
 use Rattle.spl_tree.specs.Units.{SpellsProgram}
 use Rattle.spl_tree.specs.Fronts.{IsPhrase, IsUnexpected}
 use Rattle.spl_tree.proofs.AlikePhrases.{phrase_alike, unexpected_alike}

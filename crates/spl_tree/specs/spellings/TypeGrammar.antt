@@ -9,8 +9,8 @@ use Rattle.spl_tree.specs.declared.shape.TypeKind.TheVariants as Y
 use Rattle.spl_tree.specs.declared.symbol.Symbol.TheVariants as S
 use Rattle.spl_tree.specs.declared.token.Token.{Token}
 use Rattle.spl_tree.specs.Trees.{TypeExpr, Shape, placed}
-use Rattle.spl_tree.specs.steps.Grammar.{Is, Names}
-use Rattle.spl_tree.specs.steps.Phrases.{IsKeyword}
+use Rattle.spl_tree.specs.spellings.Grammar.{Is, Names}
+use Rattle.spl_tree.specs.spellings.Phrases.{IsKeyword}
 
 -- a type, and the name of what is of it
 abbrev pub named : TypeExpr → Token → List ℕ → Attribute TypeExpr

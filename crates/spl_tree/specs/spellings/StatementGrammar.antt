@@ -10,9 +10,9 @@ use Rattle.spl_tree.specs.declared.symbol.Symbol.TheVariants as S
 use Rattle.spl_tree.specs.declared.token.Token.{Token}
 use Rattle.spl_tree.specs.Trees.{Expr, Stmt, TypeExpr, IsNoIf, placed}
 use Rattle.spl_tree.specs.Operators.{assignment_of}
-use Rattle.spl_tree.specs.steps.Grammar.{Is, Names, Elements, Steps, Spells}
-use Rattle.spl_tree.specs.steps.Phrases.{IsKeyword}
-use Rattle.spl_tree.specs.steps.TypeGrammar.{named, SpellsType}
+use Rattle.spl_tree.specs.spellings.Grammar.{Is, Names, Elements, Steps, Spells}
+use Rattle.spl_tree.specs.spellings.Phrases.{IsKeyword}
+use Rattle.spl_tree.specs.spellings.TypeGrammar.{named, SpellsType}
 
 -- a name, and the members and elements that are taken of it
 pub data SpellsPlace : Expr → List Token → Type 0 where

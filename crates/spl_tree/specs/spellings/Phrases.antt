@@ -4,7 +4,7 @@ use Rattle.spl_tree.specs.declared.symbol.Symbol.{Symbol}
 use Rattle.spl_tree.specs.declared.keyword.Keyword.{Keyword}
 use Rattle.spl_tree.specs.declared.token.Token.{Token}
 use Rattle.spl_tree.specs.declared.token.TokenKind.TheVariants as T
-use Rattle.spl_tree.specs.steps.Grammar.{Is}
+use Rattle.spl_tree.specs.spellings.Grammar.{Is}
 
 -- the token is that reserved word
 abbrev pub IsKeyword : Keyword → Token → Type 0

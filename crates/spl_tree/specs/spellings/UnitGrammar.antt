@@ -29,10 +29,10 @@ use Rattle.spl_tree.specs.declared.unit.OutputAssignments.{OutputAssignments}
 use Rattle.spl_tree.specs.declared.unit.TypeDefinition.{TypeDefinition}
 use Rattle.spl_tree.specs.declared.unit.WindowPart.{WindowPart}
 use Rattle.spl_tree.specs.Trees.{Expr, placed, Stmt, TypeExpr, Shape}
-use Rattle.spl_tree.specs.steps.Grammar.{Is, Names, Elements, Items, Fields, Spells}
-use Rattle.spl_tree.specs.steps.Phrases.{IsKeyword, Phrase, Row, Separated, Listed}
-use Rattle.spl_tree.specs.steps.StatementGrammar.{SpellsDeclaration, SpellsBlock, BeginsAt}
-use Rattle.spl_tree.specs.steps.TypeGrammar.{SpellsType, SpellsShape, SpellsFunctionParameters}
+use Rattle.spl_tree.specs.spellings.Grammar.{Is, Names, Elements, Items, Fields, Spells}
+use Rattle.spl_tree.specs.spellings.Phrases.{IsKeyword, Phrase, Row, Separated, Listed}
+use Rattle.spl_tree.specs.spellings.StatementGrammar.{SpellsDeclaration, SpellsBlock, BeginsAt}
+use Rattle.spl_tree.specs.spellings.TypeGrammar.{SpellsType, SpellsShape, SpellsFunctionParameters}
 
 -- ---- parts
 
