@@ -12,12 +12,10 @@ ghost use Rattle.written_types.specs.TypeScopes.{types_in};
 use crate::heads::Head;
 use language_laws::dollars_law;
 use language_model::{Dollar, Scope, Signatures};
+use spl_tree::MOST_HEIGHT;
 use spl_value::{Items, NoMemory};
 use std::alloc::Global;
 use written_types::narrow;
-
-/// The longest row of parameters each of which the default of the one before mentions.
-const LONGEST_ROW: u32 = 1_000;
 
 /// A scope in which nothing can be named.
 pub(crate) fn no_names(alloc: Global) -> Scope
@@ -124,7 +122,7 @@ fn settle_each(alloc: Global, head: &Head, settled: &mut Settled) -> Result<(), 
     ensures done { OnOk result ((place : ℕ) → place < length head.now.parameters.now → IsDone (given_of head.now) settled.new.marks.items place) }
 {
     for at in 0..head.parameters.len() {
-        settle(alloc, head, settled, narrow(at)?, LONGEST_ROW)?;
+        settle(alloc, head, settled, narrow(at)?, MOST_HEIGHT)?;
     }
     Ok(())
 }

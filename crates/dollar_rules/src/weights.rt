@@ -2,22 +2,20 @@
 //! row of them may grow to twice as much at each step.
 ghost use Rattle.std.specs.Prelude.{◌≡◌, ◌+◌, ◌<◌, ◌≤◌, ◌&&◌, nat_le};
 ghost use Rattle.std.specs.Bool.{OnFalse, OnTrue};
+ghost use Rattle.spl_tree.specs.declared.depth.TheConstants.{MOST_HEIGHT};
 ghost use Rattle.dollar_rules.specs.steps.Weights.{depth, depth_in, entry_codes, field_codes, parts, parts_in, selector_codes};
 
-use spl_tree::{Code, Selector, Slot};
+use spl_tree::{Code, MOST_HEIGHT, Selector, Slot};
 
-/// How deep the code of a parameter's value may be at most.
-const DEEPEST: u32 = 1_000;
-
-/// How many parts it may have at most.
+/// How many parts the code of a parameter's value may have at most.
 const MOST_PARTS: u32 = 65_536;
 
 /// Whether a code is so small that it can be copied at each use.
 pub(crate) fn is_small(code: &Code<Slot>) -> bool
-    ensures { result ≡ (nat_le (depth code.now) DEEPEST && nat_le (parts code.now) MOST_PARTS) }
+    ensures { result ≡ (nat_le (depth code.now) MOST_HEIGHT && nat_le (parts code.now) MOST_PARTS) }
 {
     let mut left = MOST_PARTS;
-    fits(code, DEEPEST, &mut left)
+    fits(code, MOST_HEIGHT, &mut left)
 }
 
 /// Whether a code is no deeper than that many levels and has no more parts than are left, from which

@@ -18,7 +18,7 @@ use crate::context::Context;
 use crate::run::run_function;
 use evaluation_laws::evaluation_law;
 use language_model::Env;
-use spl_tree::{BinaryCode, BuiltIn, Code, Functions, Selector, Slot, UnaryCode};
+use spl_tree::{BinaryCode, BuiltIn, Code, DEEPEST, Functions, Selector, Slot, UnaryCode};
 use spl_value::{Evaluated, Items, Value, Values};
 use std::alloc::Global;
 use value_operations::{
@@ -26,11 +26,6 @@ use value_operations::{
     is_marker, list_value, member, operator_with, owned, slot_value, stopped, tuple_value,
     unaries_of, value_at,
 };
-
-/// How many codes and statements may stand inside one another, those of called functions too, since
-/// the stack is memory. So many codes, or half as many calls, take less than 3 MiB of it. The code of
-/// one expression that is parsed nests no deeper than 1,000.
-pub const DEEPEST: u32 = 1500;
 
 /// The value of a code in an environment, or its fault, with the turns that are left.
 ///

@@ -12,7 +12,7 @@ mod truth;
 mod tuple;
 mod variables;
 
-pub use evaluate::{DEEPEST, eval};
+pub use evaluate::eval;
 pub use language_model::{Env, Tuples};
 pub use moving::tuple_moving;
 pub use run::{Ran, run_body};

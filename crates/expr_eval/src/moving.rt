@@ -19,11 +19,11 @@ ghost use Rattle.expr_eval.specs.Moving.{AreMoves, MovesFit};
 ghost use Rattle.expr_eval.specs.steps.MovedFields.{AnswersBut, AreBut, GoTo};
 
 use crate::context::Context;
-use crate::evaluate::{DEEPEST, own_value};
+use crate::evaluate::own_value;
 use crate::tuple::tuple_into;
 use evaluation_laws::evaluation_law;
 use language_model::Env;
-use spl_tree::{Code, Functions, Slot};
+use spl_tree::{Code, DEEPEST, Functions, Slot};
 use spl_value::{Value, Values};
 use std::alloc::Global;
 use std::mem;

@@ -16,7 +16,7 @@ use crate::answered::{
     add, element_step, key_step, take_next, with_append, with_clear, with_put, with_remove,
 };
 use crate::context::{Context, Program};
-use crate::evaluate::{DEEPEST, eval_all, eval_at, is_true, own_value};
+use crate::evaluate::{eval_all, eval_at, is_true, own_value};
 use crate::flow::{begin_turn, enter_call, returned, statement_end, turn_end};
 use crate::statements::{
     declare, next_follows, next_follows_call, next_follows_value, return_value, submit,
@@ -25,7 +25,7 @@ use crate::statements::{
 use crate::variables::change_with;
 use evaluation_laws::evaluation_law;
 use language_model::{Env, Flow, Outs};
-use spl_tree::{Body, Change, Code, Functions, Place, Selector, Slot, Statement};
+use spl_tree::{Body, Change, Code, DEEPEST, Functions, Place, Selector, Slot, Statement};
 use spl_value::{FaultKind, Items, Value, Values};
 use std::alloc::Global;
 use value_operations::{Held, Stop, elements, enter};

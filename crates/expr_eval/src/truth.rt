@@ -15,10 +15,10 @@ ghost use Rattle.value_operations.specs.Answers.{Answers, IsSo};
 ghost use Rattle.expr_eval.specs.Fitting.{IsFit};
 
 use crate::context::Context;
-use crate::evaluate::{DEEPEST, eval_at, is_true};
+use crate::evaluate::{eval_at, is_true};
 use evaluation_laws::evaluation_law;
 use language_model::Env;
-use spl_tree::{BinaryCode, Code, Functions, Slot, UnaryCode};
+use spl_tree::{BinaryCode, Code, DEEPEST, Functions, Slot, UnaryCode};
 use spl_value::Value;
 use std::alloc::Global;
 use value_operations::{

@@ -13,10 +13,10 @@ ghost use Rattle.language_model.specs.WorldFits.{Fits};
 ghost use Rattle.value_operations.specs.Answers.{Answers, IsMadeAs};
 
 use crate::context::Context;
-use crate::evaluate::{DEEPEST, eval_fields, own_value};
+use crate::evaluate::{eval_fields, own_value};
 use evaluation_laws::evaluation_law;
 use language_model::Env;
-use spl_tree::{Code, Functions, Slot};
+use spl_tree::{Code, DEEPEST, Functions, Slot};
 use spl_value::Values;
 use std::alloc::Global;
 use value_operations::{Made, Stop, made, values_of_tuple};

@@ -11,9 +11,8 @@ ghost use Rattle.value_operations.specs.steps.Places.{CanChangeAt};
 ghost use Rattle.expr_eval.specs.Running.{LeadsNext, state};
 ghost use Rattle.expr_eval.specs.steps.Keeping.{Keeps};
 
-use crate::evaluate::DEEPEST;
 use language_model::Env;
-use spl_tree::{Change, Selector};
+use spl_tree::{Change, DEEPEST, Selector};
 use spl_value::{Items, Value};
 use std::alloc::Global;
 use value_operations::{Stop, change_at};

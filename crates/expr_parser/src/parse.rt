@@ -6,13 +6,9 @@ ghost use Rattle.expr_parser.specs.Parses.{ParsesExpr};
 use crate::answer::{ParsedExpr, SyntaxAnswer};
 use crate::reading::expr;
 use crate::stop::Stop;
-use spl_tree::Tokens;
+use spl_tree::{MOST_NESTED, Tokens};
 use std::alloc::Global;
 use token_weights::too_deep;
-
-/// How deep expressions may nest in one another, and so types and statements: deeper than the weights
-/// of ordinary programs allow. The stack is memory.
-pub const MOST_NESTED: u32 = 256;
 
 /// The byte at which that token of the list begins, or the program's end where there is none.
 pub fn place_of(tokens: &Tokens, at: usize) -> u32

@@ -5,10 +5,9 @@ ghost use Rattle.expr_parser.specs.Lines as lines;
 ghost use Rattle.expr_parser.specs.Parts.{Closed, SpellsSteps, goes_on};
 ghost use Rattle.spl_tree.specs.spellings.Grammar.{Elements, Items, Spells};
 
-use crate::parse::MOST_NESTED;
 use crate::reading::{elements, expr, items, steps};
 use crate::stop::Stop;
-use spl_tree::{Expr, Exprs, Symbol, Token};
+use spl_tree::{Expr, Exprs, MOST_NESTED, Symbol, Token};
 use std::alloc::Global;
 
 /// A value that is read, and the tokens after it.

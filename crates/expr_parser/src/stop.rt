@@ -2,7 +2,7 @@
 ghost use Rattle.std.specs.Prelude.{◌≡◌, Err, OnErr};
 ghost use Rattle.expr_parser.specs.declared.stop.Stop.TheVariants.{Memory};
 
-use spl_tree::Token;
+use spl_tree::{MOST_HEIGHT, Token};
 use spl_value::NoMemory;
 use std::alloc::AllocError;
 
@@ -33,9 +33,6 @@ impl<'t> From<NoMemory> for Stop<'t> {
         Stop::Memory
     }
 }
-
-/// The highest tree that is made: what goes over trees does so by recursion, and the stack is memory.
-pub(crate) const MOST_HEIGHT: u32 = 1000;
 
 /// One more than a height.
 pub(crate) fn taller<'t>(height: u32) -> Result<u32, Stop<'t>>

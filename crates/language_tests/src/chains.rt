@@ -1,5 +1,5 @@
 //! Calls inside calls.
-use expr_eval::DEEPEST;
+use spl_tree::DEEPEST;
 use std::alloc::Global;
 use test_texts::text::Text;
 

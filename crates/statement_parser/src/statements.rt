@@ -7,8 +7,8 @@ ghost use Rattle.statement_parser.specs.Lines.{braces_rule, for_rule, last_branc
 
 use crate::first::word_first;
 use crate::simple::{condition, else_first, for_head, simple_statement, statement_at};
-use expr_parser::{MOST_NESTED, Stop, Taken, pass, symbol_first};
-use spl_tree::{Block, Expr, Keyword, Stmt, StmtKind, Symbol, Token};
+use expr_parser::{Stop, Taken, pass, symbol_first};
+use spl_tree::{Block, Expr, Keyword, MOST_NESTED, Stmt, StmtKind, Symbol, Token};
 use spl_value::Items;
 use std::alloc::Global;
 

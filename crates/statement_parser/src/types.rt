@@ -9,9 +9,10 @@ ghost use Rattle.statement_parser.specs.steps.Parts.{attribute_rule, named_attri
 
 use crate::first::{type_first, word_first};
 use crate::sequence::{closed, push_taken};
-use expr_parser::{MOST_NESTED, Stop, Taken, name_first, pass, pass_name, symbol_first};
+use expr_parser::{Stop, Taken, name_first, pass, pass_name, symbol_first};
 use spl_tree::{
-    Attribute, Attributes, Keyword, Placed, Shape, ShapeKind, Symbol, Token, TypeExpr, TypeKind,
+    Attribute, Attributes, Keyword, MOST_NESTED, Placed, Shape, ShapeKind, Symbol, Token, TypeExpr,
+    TypeKind,
 };
 use spl_value::Items;
 use std::alloc::Global;

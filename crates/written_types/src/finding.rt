@@ -6,11 +6,10 @@ ghost use Rattle.language_model.specs.Finds.{Finds};
 ghost use Rattle.written_types.specs.TypeScopes.{types_in};
 ghost use Rattle.written_types.specs.steps.TypeScopes.{NameMeans};
 
-use crate::DEEPEST;
 use crate::refusals::{left_out, unknown};
 use crate::table::TypeTable;
 use language_model::TypeAnswer;
-use spl_tree::{Attribute, Shape, ShapeKind, TypeDefinition, TypeExpr, TypeKind};
+use spl_tree::{Attribute, MOST_HEIGHT, Shape, ShapeKind, TypeDefinition, TypeExpr, TypeKind};
 use spl_value::{Boxed, Items, Name, Named, NoMemory, Schema, SplType};
 use std::alloc::{AllocError, Global};
 
@@ -200,7 +199,7 @@ pub fn type_boxed(
     ensures { Finds (type_meant (types_in scope.now) written.now) result }
 {
     let mut parts = MOST_PARTS;
-    type_at(alloc, scope, written, DEEPEST, &mut parts)
+    type_at(alloc, scope, written, MOST_HEIGHT, &mut parts)
 }
 
 /// The type that a written type means.
@@ -225,7 +224,7 @@ pub fn shape_of(alloc: Global, scope: &TypeScope, shape: &Shape) -> Result<SplTy
     ensures { Finds (shape_meant (types_in scope.now) shape.now) result }
 {
     let mut parts = MOST_PARTS;
-    let kind = shape_at(alloc, scope, shape, DEEPEST, &mut parts)?;
+    let kind = shape_at(alloc, scope, shape, MOST_HEIGHT, &mut parts)?;
     Ok(kind.into_inner())
 }
 
@@ -239,5 +238,5 @@ pub fn attributes_of(
     ensures { Finds (attributes_type (types_in scope.now) (written_attributes attributes.now)) result }
 {
     let mut parts = MOST_PARTS;
-    schema_at(alloc, scope, attributes, DEEPEST, &mut parts)
+    schema_at(alloc, scope, attributes, MOST_HEIGHT, &mut parts)
 }

@@ -12,6 +12,3 @@ pub use definitions::narrow;
 pub use finding::{TypeScope, attributes_of, shape_of, type_boxed, type_of_written};
 pub use leading::leads_back;
 pub use table::TypeTable;
-
-/// No more types and names that are followed are read inside one another: the stack is memory.
-const DEEPEST: u32 = 1_000;

@@ -4,9 +4,8 @@ ghost use Rattle.language_model.specs.TypeNames.{type_names};
 ghost use Rattle.language_model.specs.parts.TypeNames.{shape_names};
 ghost use Rattle.written_types.specs.steps.Definitions.{places_of, rows_of};
 
-use crate::DEEPEST;
 use crate::definitions::Definitions;
-use spl_tree::{Attribute, Shape, ShapeKind, TypeExpr, TypeKind};
+use spl_tree::{Attribute, MOST_HEIGHT, Shape, ShapeKind, TypeExpr, TypeKind};
 use spl_value::{Items, NoMemory};
 use std::alloc::Global;
 
@@ -69,9 +68,9 @@ fn places_of_shape(
 {
     let mut places = Items::new(alloc);
     match &shape.what {
-        ShapeKind::Type(written) => add_of_type(definitions, written, DEEPEST, &mut places)?,
+        ShapeKind::Type(written) => add_of_type(definitions, written, MOST_HEIGHT, &mut places)?,
         ShapeKind::Attributes(attributes) => {
-            add_of_attributes(definitions, attributes.as_slice(), DEEPEST, &mut places)?;
+            add_of_attributes(definitions, attributes.as_slice(), MOST_HEIGHT, &mut places)?;
         }
     }
     Ok(places)

@@ -10,14 +10,11 @@ ghost use Rattle.stream_rules.specs.steps.Among.{Hold, graph_of, unit_of};
 use crate::ports::standing::{Streams, port_matches};
 use body_sites::Body;
 use language_model::TypeAnswer;
-use spl_tree::{Placed, Site};
+use spl_tree::{MOST_HEIGHT, Placed, Site};
 use spl_value::{Attribute, Name, NoMemory};
 use std::alloc::Global;
 use std::collections::HashSet;
 use written_types::narrow;
-
-/// Heads don't stand in one another deeper: the stack is memory.
-const DEEPEST: u32 = 1_000;
 
 /// The ports of invocations that were looked at and passed, each by the heads that may still be around
 /// it, its site and its number. Where each head has two inputs that the one around it feeds from two,
@@ -188,6 +185,6 @@ pub(super) fn heads(
         body,
         names,
         left,
-        DEEPEST,
+        MOST_HEIGHT,
     )
 }
