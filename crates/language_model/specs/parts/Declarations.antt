@@ -1,13 +1,12 @@
 -- Words for parts of the rules of names that are declared: definitions, streams and ports that stand again, and the sets of parts.
-use Rattle.std.specs.Prelude.{Bool, ◌&&◌, ◌||◌, not, List, [], ◌∷◌, ◌++◌, map, flat_map, if◌then◌else◌}
+use Rattle.std.specs.Prelude.{Bool, ◌&&◌, ◌||◌, not, List, ◌∷◌, ◌++◌, map, flat_map, if◌then◌else◌}
 use Rattle.std.specs.List.{list_any}
-use Rattle.std.specs.Option.{option_map_or, option_to_list}
+use Rattle.std.specs.Option.{option_to_list}
 use Rattle.spl_tree.specs.declared.statement.Declaration.{Declaration}
 use Rattle.spl_tree.specs.declared.statement.StmtKind.{StmtKind}
 use Rattle.spl_tree.specs.declared.statement.StmtKind.TheFolds.{fold-StmtKind}
 use Rattle.spl_tree.specs.declared.unit.Composite.{Composite}
 use Rattle.spl_tree.specs.declared.unit.Definition.{Definition}
-use Rattle.spl_tree.specs.declared.unit.HeadPort.{HeadPort}
 use Rattle.spl_tree.specs.declared.unit.Invocation.{Invocation}
 use Rattle.spl_tree.specs.Trees.{Shape}
 use Rattle.language_model.specs.Declarations.{Name, is_same, repeated, repeated_names, definition_name, is_built_in, Declared, OutputPort, InputPort, MadeStream, Alias, declared_name, may_share, stand_before, graph_names, Sets, type_sets, kind_sets, Scoped, level_statement}
@@ -48,6 +47,3 @@ statement_scoped s = fold-StmtKind Scoped level_statement s
 
 abbrev pub variable_sets : List Declaration → Sets
 variable_sets ds = map (λ d. d.name) ds ∷ flat_map (λ d. type_sets d.kind) ds
-
-abbrev pub port_sets : HeadPort → Sets
-port_sets p = option_map_or (λ h. kind_sets h.what) p.shape []
