@@ -7,7 +7,8 @@ use Rattle.spl_tree.specs.declared.graph.Graph.{Graph}
 use Rattle.spl_tree.specs.declared.unit.Composite.{Composite}
 use Rattle.spl_tree.specs.declared.unit.Definition.{Definition}
 use Rattle.spl_tree.specs.Trees.{placed}
-use Rattle.language_model.specs.declared.expansion.ExpansionRefusal.TheVariants as R
+use Rattle.language_model.specs.declared.expansion.ExpansionError.TheVariants as E
+use Rattle.language_model.specs.Refusals.{named_refusal}
 use Rattle.language_model.specs.declared.expansion.Operation.{Operation}
 use Rattle.language_model.specs.Composites.{composites, composite_named, main_of, if_main, has_no_ports, is_empty}
 use Rattle.language_model.proofs.parts.Composites.{named_or_only, only_one, portless, behind_first}
@@ -73,8 +74,8 @@ module _ (unit : List Definition) (names : List (List ℕ)) (main : At Composite
       ∙ ap (λ p. after (if_all_taken e.made topo p) (with_own_files unit names)) first
 
   pub loops : (op : ℕ) (label : Placed (List ℕ)) → first_untaken topo 0 (length e.made.ops) ≡ Some op
-      → slice_get (map (λ (x : Operation). placed x.at x.label) e.made.ops) op ≡ Some label → flat_from unit names main ≡ Err (R.Loop label)
-  loops op label first there = from_order (Some op) first ∙ ap (λ l. Err (R.Loop l)) (label_there e.made op label there)
+      → slice_get (map (λ (x : Operation). placed x.at x.label) e.made.ops) op ≡ Some label → flat_from unit names main ≡ Err (named_refusal E.Loop label)
+  loops op label first there = from_order (Some op) first ∙ ap (λ l. Err (named_refusal E.Loop l)) (label_there e.made op label there)
 
   graph_is : (g : Graph) → g ≡ record { ops = n.ops; streams = n.streams; expansions = n.expansions; topo = topo } → graph_of e.made topo ≡ g
   graph_is g same =
@@ -145,7 +146,7 @@ main_starts unit place is none =
 -- ---- what is answered
 
 pub recursive : (unit : List Definition) (names : List (List ℕ)) (place : ℕ) (n : Placed (List ℕ)) → declared_twice unit ≡ None → main_of unit ≡ Some place → IsRecursive unit n
-    → IsFlat unit names (Err (R.Recursive n))
+    → IsFlat unit names (Err (named_refusal E.Recursive n))
 recursive unit names place n once is found =
     let h = main_there unit place is in
     IsFlat.recursive h.0 n once ((is ∙ ap (λ k. Some k) (sym h.1.place_is)), h.1.there) found

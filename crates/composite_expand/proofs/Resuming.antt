@@ -7,7 +7,8 @@ use Rattle.spl_tree.specs.declared.unit.Definition.{Definition}
 use Rattle.spl_tree.specs.declared.unit.Invocation.{Invocation}
 use Rattle.spl_tree.specs.Trees.{placed}
 use Rattle.language_model.specs.declared.expansion.ExpansionRefusal.{ExpansionRefusal}
-use Rattle.language_model.specs.declared.expansion.ExpansionRefusal.TheVariants as R
+use Rattle.language_model.specs.declared.expansion.ExpansionError.TheVariants as E
+use Rattle.language_model.specs.Refusals.{named_refusal}
 use Rattle.language_model.specs.Expansion.{Made, Expanded, Inlined, Opened, Expands, after, expanded, expanded_graph, expanded_invocation, expanded_target, opened_in, inlined}
 use Rattle.language_model.specs.parts.Expansion.{if_grown, with_expansion}
 use Rattle.language_model.proofs.parts.Expansion.{if_declared}
@@ -51,7 +52,7 @@ invokes expands unit p number i made c known target fits =
     ap (λ n. if_declared n (expanded_target expands p number i (target_of unit i.operator.what) made)) known
     ∙ ap (λ t. expanded_target expands p number i t made) target
     ∙ ap (λ b. if b then after (expands (opened_in p number i c made) (with_expansion (inlined p number c) made)) (λ m. Ok (if_grown made m))
-    else Err (R.Ports (placed i.at i.operator.what))) fits
+    else Err (named_refusal E.Ports (placed i.at i.operator.what))) fits
 
 -- and so its body is opened
 pub opens : (depth : ℕ) (unit : List Definition) (f : Frame) (fs : List Frame) (made : Made) (i : Invocation) (c : At Composite)

@@ -10,7 +10,8 @@ use Rattle.spl_tree.specs.declared.unit.Definition.{Definition}
 use Rattle.spl_tree.specs.declared.unit.Invocation.{Invocation}
 use Rattle.spl_tree.specs.Trees.{placed}
 use Rattle.language_model.specs.declared.expansion.ExpansionRefusal.{ExpansionRefusal}
-use Rattle.language_model.specs.declared.expansion.ExpansionRefusal.TheVariants as R
+use Rattle.language_model.specs.declared.expansion.ExpansionError.TheVariants as E
+use Rattle.language_model.specs.Refusals.{named_refusal, unnamed_refusal}
 use Rattle.language_model.specs.declared.expansion.Operation.{Operation}
 use Rattle.language_model.specs.Composites.{composites}
 use Rattle.language_model.specs.Declarations.{first_of}
@@ -94,20 +95,20 @@ module _ (unit : List Definition) (main : At Composite) (w : Walk) (o : Opened) 
   refuse : (r : ExpansionRefusal) → expanded_invocation (expanded stands.depth unit) unit stands.f.opened stands.f.next i stands.made ≡ Err r → expanded_main unit main ≡ Err r
   refuse r e = refused unit main w o (reverse w.opened) stands i r here e
 
-  pub undeclared_refused : (n : Placed (List ℕ)) → first_of (undeclared unit c i) ≡ Some n → expanded_main unit main ≡ Err (R.Unknown n)
+  pub undeclared_refused : (n : Placed (List ℕ)) → first_of (undeclared unit c i) ≡ Some n → expanded_main unit main ≡ Err (named_refusal E.Unknown n)
   undeclared_refused n found =
-      refuse (R.Unknown n) (ap (λ m. if_declared m (expanded_target (expanded stands.depth unit) stands.f.opened stands.f.next i (target_of unit i.operator.what) stands.made))
+      refuse (named_refusal E.Unknown n) (ap (λ m. if_declared m (expanded_target (expanded stands.depth unit) stands.f.opened stands.f.next i (target_of unit i.operator.what) stands.made))
       (ap (λ d. first_of (undeclared unit d i)) is.composite ∙ found))
 
-  pub nothing_refused : first_of (undeclared unit c i) ≡ None → target_of unit i.operator.what ≡ Nothing → expanded_main unit main ≡ Err (R.Unknown i.operator)
-  nothing_refused known target = refuse (R.Unknown i.operator) (target_is Nothing known target)
+  pub nothing_refused : first_of (undeclared unit c i) ≡ None → target_of unit i.operator.what ≡ Nothing → expanded_main unit main ≡ Err (named_refusal E.Unknown i.operator)
+  nothing_refused known target = refuse (named_refusal E.Unknown i.operator) (target_is Nothing known target)
 
   pub ports_refused : (d : At Composite) → first_of (undeclared unit c i) ≡ None → target_of unit i.operator.what ≡ Body d → fits_head d.what i ≡ false
-      → expanded_main unit main ≡ Err (R.Ports (placed i.at i.operator.what))
+      → expanded_main unit main ≡ Err (named_refusal E.Ports (placed i.at i.operator.what))
   ports_refused d known target fits =
-      refuse (R.Ports (placed i.at i.operator.what)) (target_is (Body d) known target
+      refuse (named_refusal E.Ports (placed i.at i.operator.what)) (target_is (Body d) known target
       ∙ ap (λ b. if b then after (expanded stands.depth unit (opened_in stands.f.opened stands.f.next i d stands.made) (with_expansion (inlined stands.f.opened stands.f.next d) stands.made)) (λ m. Ok (if_grown stands.made m))
-      else Err (R.Ports (placed i.at i.operator.what))) fits)
+      else Err (named_refusal E.Ports (placed i.at i.operator.what))) fits)
 
   -- ---- operators
 
@@ -116,10 +117,10 @@ module _ (unit : List Definition) (main : At Composite) (w : Walk) (o : Opened) 
   made_operation kind = operation stands.made.expansions stands.f.opened stands.f.next i kind
 
   pub too_many_refused : (kind : OpKind) → first_of (undeclared unit c i) ≡ None → target_of unit i.operator.what ≡ Operator kind
-      → is_within (stands.made.ops ++ made_operation kind ∷ []) ≡ false → expanded_main unit main ≡ Err (R.TooMany i.at)
+      → is_within (stands.made.ops ++ made_operation kind ∷ []) ≡ false → expanded_main unit main ≡ Err (unnamed_refusal E.TooMany i.at)
   too_many_refused kind known target past =
-      refuse (R.TooMany i.at) (target_is (Operator kind) known target
-      ∙ ap (λ b. if b then Ok (with_operation (made_operation kind) stands.made) else Err (R.TooMany i.at)) past)
+      refuse (unnamed_refusal E.TooMany i.at) (target_is (Operator kind) known target
+      ∙ ap (λ b. if b then Ok (with_operation (made_operation kind) stands.made) else Err (unnamed_refusal E.TooMany i.at)) past)
 
   sum_snoc : (ops : List Operation) (op : Operation) → sum_by connections_of (ops ++ op ∷ []) ≡ sum_by connections_of ops + connections_of op
   sum_snoc ops op = let h = sum_by-append connections_of ops (op ∷ []) in omega (arith, h)
@@ -130,7 +131,7 @@ module _ (unit : List Definition) (main : At Composite) (w : Walk) (o : Opened) 
       → GoesOn unit main w o v
   operator_added v p kind known target within on pushed names idle ops bodies inputs connections =
       goes_to v p pushed on (added unit main w v o p (reverse w.opened) stands i (made_operation kind) here
-      (target_is (Operator kind) known target ∙ ap (λ b. if b then Ok (with_operation (made_operation kind) stands.made) else Err (R.TooMany i.at)) within)
+      (target_is (Operator kind) known target ∙ ap (λ b. if b then Ok (with_operation (made_operation kind) stands.made) else Err (unnamed_refusal E.TooMany i.at)) within)
       on names record {
         marks = subst (AreMarks unit) (sym idle) stands.marks;
         ops = ops ∙ ap (λ xs. xs ++ made_operation kind ∷ []) stands.ops;
@@ -411,7 +412,7 @@ module _ (unit : List Definition) (main : At Composite) (w : Walk) (o : Opened) 
   long : length (is.at.made.ops ++ op ∷ []) ≡ suc (length w.ops)
   long = let h = length-append is.at.made.ops (op ∷ []) in let same : length w.ops ≡ length is.at.made.ops = ap length is.at.ops in omega (arith, h, same)
 
-  pub past_limit : (256 ≤ length w.ops) ⊎ (2 ^ 30 ≤ total) → expanded_main unit main ≡ Err (R.TooMany i.at)
+  pub past_limit : (256 ≤ length w.ops) ⊎ (2 ^ 30 ≤ total) → expanded_main unit main ≡ Err (unnamed_refusal E.TooMany i.at)
   past_limit limit =
       too_many_refused unit main w o c i is kind known target (not_within (is.at.made.ops ++ op ∷ [])
       (elim limit [

@@ -1,9 +1,11 @@
 //! What is answered where a program has no graph.
 ghost use Rattle.std.specs.Prelude.{◌≡◌};
-ghost use Rattle.composite_expand.specs.declared.answer.ExpandAnswer.TheVariants.{Memory};
+ghost use Rattle.composite_expand.specs.declared.answer.ExpandAnswer.TheVariants.{Memory, Refused};
+ghost use Rattle.language_model.specs.Refusals.{named_refusal};
 
-use language_model::ExpansionRefusal;
-use spl_value::NoMemory;
+use language_model::{ExpansionError, ExpansionRefusal};
+use spl_tree::Placed;
+use spl_value::{Name, NoMemory};
 use std::alloc::AllocError;
 
 /// Why there is no graph.
@@ -29,4 +31,16 @@ impl From<AllocError> for ExpandAnswer {
     fn from(_: AllocError) -> ExpandAnswer {
         ExpandAnswer::Memory
     }
+}
+
+/// The refusal of a name, at its place.
+pub(crate) fn refused(error: ExpansionError, name: Placed<Name>) -> ExpandAnswer
+    ensures { result ≡ Refused (named_refusal error name) }
+{
+    let (at, name) = name.into_parts();
+    ExpandAnswer::Refused(ExpansionRefusal {
+        error,
+        at,
+        name: Some(name),
+    })
 }

@@ -10,12 +10,12 @@ ghost use Rattle.composite_expand.specs.steps.Waiting.{IsFirstWaiting};
 ghost use Rattle.composite_expand.specs.steps.Walks.{IsExpanded};
 ghost use Rattle.stream_numbering.specs.Numbered.{IsNumbered};
 
-use crate::answer::ExpandAnswer;
+use crate::answer::{ExpandAnswer, refused};
 use crate::walk::{Walk, expand_main};
 use composite_tables::{Composites, main_of};
 use cycle_rules::{first_outside, first_recursion, topological_order};
 use duplicate_rules::{declared_twice, same_file};
-use language_model::{ExpansionRefusal, Operation};
+use language_model::{ExpansionError, ExpansionRefusal, Operation};
 use spl_tree::{Graph, Placed, Unit};
 use spl_value::{Items, Name, NoMemory};
 use std::alloc::Global;
@@ -74,12 +74,12 @@ fn graph_of(
     let parts = numbered(alloc, composites, walk)?;
     let topo = topological_order(alloc, parts.streams.as_slice(), parts.ops.as_slice())?;
     if let Some(name) = first_waiting(labels, topo.as_slice()) {
-        return Err(ExpandAnswer::Refused(ExpansionRefusal::Loop(name)));
+        return Err(refused(ExpansionError::Loop, name));
     }
     let expansions = parts.expansions.as_slice();
     let ops = parts.ops.as_slice();
     if let Some(file) = same_file(alloc, composites.unit, names, expansions, ops)? {
-        return Err(ExpandAnswer::Refused(ExpansionRefusal::SameFile(file)));
+        return Err(refused(ExpansionError::SameFile, file));
     }
     Ok(Graph {
         ops: parts.ops,
@@ -98,14 +98,18 @@ pub fn expand(alloc: Global, unit: &Unit, names: &Items<Name>) -> Result<Graph, 
     ensures { Expands unit.now names.now result }
 {
     if let Some(name) = declared_twice(alloc, unit)? {
-        return Err(ExpandAnswer::Refused(ExpansionRefusal::Twice(name)));
+        return Err(refused(ExpansionError::Twice, name));
     }
     let composites = Composites::new(alloc, unit)?;
     let Some(main) = main_of(&composites) else {
-        return Err(ExpandAnswer::Refused(ExpansionRefusal::NoMain));
+        return Err(ExpandAnswer::Refused(ExpansionRefusal {
+            error: ExpansionError::NoMain,
+            at: 0,
+            name: None,
+        }));
     };
     if let Some(name) = first_recursion(alloc, unit)? {
-        return Err(ExpandAnswer::Refused(ExpansionRefusal::Recursive(name)));
+        return Err(refused(ExpansionError::Recursive, name));
     }
     let walk = match expand_main(alloc, &composites, main) {
         Ok(walk) => walk,

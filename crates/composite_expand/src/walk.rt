@@ -4,7 +4,8 @@ ghost use Rattle.spl_tree.specs.Trees.{placed};
 ghost use Rattle.spl_tree.specs.declared.unit.Composite.{Composite};
 ghost use Rattle.spl_tree.specs.declared.unit.Definition.{Definition};
 ghost use Rattle.spl_tree.specs.declared.unit.Invocation.{Invocation};
-ghost use Rattle.language_model.specs.declared.expansion.ExpansionRefusal.TheVariants as R;
+ghost use Rattle.language_model.specs.declared.expansion.ExpansionError.TheVariants as E;
+ghost use Rattle.language_model.specs.Refusals.{named_refusal};
 ghost use Rattle.composite_expand.specs.declared.answer.ExpandAnswer.TheVariants as X;
 ghost use Rattle.language_model.specs.Composites.{composites as composites_of};
 ghost use Rattle.language_model.specs.Declarations.{first_of};
@@ -21,8 +22,8 @@ use crate::invoking::{Target, target_of, undeclared};
 use composite_tables::{
     Body, Composites, Input, Scope, connections, fits_head, inputs_of, sources_by_port,
 };
-use language_model::{ExpansionRefusal, Operation};
-use spl_tree::{Invocation, OpKind, Placed, Site};
+use language_model::{ExpansionError, ExpansionRefusal, Operation};
+use spl_tree::{Invocation, OpKind, Site};
 use spl_value::{Items, Name, NoMemory};
 use std::alloc::Global;
 
@@ -276,7 +277,11 @@ fn add(
     let count = connections_at(walk, top, scope, invocation);
     let total = walk.connections.saturating_add(count);
     if walk.ops.len() >= MOST_OPERATORS || total >= TOO_MANY_CONNECTIONS {
-        return Err(ExpandAnswer::Refused(ExpansionRefusal::TooMany(invocation.at)));
+        return Err(ExpandAnswer::Refused(ExpansionRefusal {
+            error: ExpansionError::TooMany,
+            at: invocation.at,
+            name: None,
+        }));
     }
     let made = operation(alloc, composites, walk, top, invocation, kind)?;
     walk.ops.push(made)?;
@@ -287,21 +292,26 @@ fn add(
 
 /// The refusal of a name at a place that isn't declared.
 fn unknown(alloc: Global, at: u32, name: &Name) -> Result<ExpandAnswer, NoMemory>
-    ensures { IfOk result (λ answer. answer ≡ X.Refused (R.Unknown (placed at name.now))) }
+    ensures { IfOk result (λ answer. answer ≡ X.Refused (named_refusal E.Unknown (placed at name.now))) }
 {
     let what = Items::from_slice(alloc, name.as_slice())?;
-    Ok(ExpandAnswer::Refused(ExpansionRefusal::Unknown(Placed { at, what })))
+    Ok(ExpandAnswer::Refused(ExpansionRefusal {
+        error: ExpansionError::Unknown,
+        at,
+        name: Some(what),
+    }))
 }
 
 /// The refusal of an invocation that doesn't fit the head of the composite that it invokes.
 fn misfit(alloc: Global, invocation: &Invocation) -> Result<ExpandAnswer, NoMemory>
-    ensures { IfOk result (λ answer. answer ≡ X.Refused (R.Ports (placed invocation.now.at invocation.now.operator.what))) }
+    ensures { IfOk result (λ answer. answer ≡ X.Refused (named_refusal E.Ports (placed invocation.now.at invocation.now.operator.what))) }
 {
     let what = Items::from_slice(alloc, invocation.operator.what.as_slice())?;
-    Ok(ExpandAnswer::Refused(ExpansionRefusal::Ports(Placed {
+    Ok(ExpandAnswer::Refused(ExpansionRefusal {
+        error: ExpansionError::Ports,
         at: invocation.at,
-        what,
-    })))
+        name: Some(what),
+    }))
 }
 
 /// Whether the composite at a place is known to make no operator.

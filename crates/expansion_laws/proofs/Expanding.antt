@@ -10,7 +10,8 @@ use Rattle.spl_tree.specs.declared.unit.HeadPort.{HeadPort}
 use Rattle.spl_tree.specs.declared.unit.Invocation.{Invocation}
 use Rattle.spl_tree.specs.declared.unit.OutputStream.{OutputStream}
 use Rattle.spl_tree.specs.Trees.{placed}
-use Rattle.language_model.specs.declared.expansion.ExpansionRefusal.TheVariants as R
+use Rattle.language_model.specs.declared.expansion.ExpansionError.TheVariants as E
+use Rattle.language_model.specs.Refusals.{named_refusal}
 use Rattle.language_model.specs.Composites.{composites, has_no_ports}
 use Rattle.language_model.specs.Declarations.{first_of}
 use Rattle.language_model.specs.Expansion.{Made, Inlined, Opened, Expands, after, operation, inlined, opened_in, expanded_target, expanded_invocation, expanded_graph, expanded, main_body, expanded_main}
@@ -127,7 +128,7 @@ module _ (unit : List Definition) (depth : ℕ) (expands : Expands) (does : Does
         }
     one_target next (Body c) is e =
         elim (fits_head c.what i)
-        as (λ b. fits_head c.what i ≡ b → (if b then after (expands (opened_in p number i c before) (with_expansion (inlined p number c) before)) (λ m. Ok (if_grown before m)) else Err (R.Ports (placed i.at i.operator.what))) ≡ Ok next
+        as (λ b. fits_head c.what i ≡ b → (if b then after (expands (opened_in p number i c before) (with_expansion (inlined p number c) before)) (λ m. Ok (if_grown before m)) else Err (named_refusal E.Ports (placed i.at i.operator.what))) ≡ Ok next
         → One unit p pp number i before next) [
           | true ↦ λ fits gives.
               let x = after_gives (expands (opened_in p number i c before) (with_expansion (inlined p number c) before)) (λ m. Ok (if_grown before m)) next gives in

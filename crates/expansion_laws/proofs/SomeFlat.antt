@@ -5,7 +5,8 @@ use Rattle.std.proofs.lemmas.Option.{same_Some}
 use Rattle.spl_tree.specs.declared.expression.Placed.{Placed}
 use Rattle.spl_tree.specs.declared.unit.Composite.{Composite}
 use Rattle.spl_tree.specs.declared.unit.Definition.{Definition}
-use Rattle.language_model.specs.declared.expansion.ExpansionRefusal.TheVariants as R
+use Rattle.language_model.specs.declared.expansion.ExpansionError.TheVariants as E
+use Rattle.language_model.specs.Refusals.{named_refusal, unnamed_refusal}
 use Rattle.language_model.specs.Composites.{composites, composite_named, has_no_ports, if_main, main_of}
 use Rattle.language_model.specs.parts.Composites.{may_be_main}
 use Rattle.language_model.proofs.parts.Composites.{portless, behind_first, only_one, named_or_only}
@@ -75,13 +76,13 @@ pub found_law : FoundLaw
 found_law unit names = by_names (declared_twice unit) refl
   where
     by_recursion : (main : At Composite) → declared_twice unit ≡ None → IsMain unit main → Recursive unit ⊎ IsNotRecursive unit → IsFound unit names
-    by_recursion main once is (inl found) = (Err (R.Recursive found.0), recursive main found.0 once is found.1)
+    by_recursion main once is (inl found) = (Err (named_refusal E.Recursive found.0), recursive main found.0 once is found.1)
     by_recursion main once is (inr none) = (flat_from unit names main, expands main once is none)
 
     by_main : declared_twice unit ≡ None → (o : Option ℕ) → main_of unit ≡ o → IsFound unit names
-    by_main once None is = (Err R.NoMain, no_main once is)
+    by_main once None is = (Err (unnamed_refusal E.NoMain 0), no_main once is)
     by_main once (Some place) is = let main = main_there unit place is in by_recursion main.0 once main.1 (unit_decided unit)
 
     by_names : (o : Option (Placed (List ℕ))) → declared_twice unit ≡ o → IsFound unit names
-    by_names (Some n) is = (Err (R.Twice n), twice n is)
+    by_names (Some n) is = (Err (named_refusal E.Twice n), twice n is)
     by_names None is = by_main is (main_of unit) refl

@@ -14,7 +14,8 @@ use Rattle.spl_tree.specs.declared.unit.Composite.{Composite}
 use Rattle.spl_tree.specs.declared.unit.Definition.{Definition}
 use Rattle.spl_tree.specs.declared.unit.Invocation.{Invocation}
 use Rattle.spl_tree.specs.Trees.{placed}
-use Rattle.language_model.specs.declared.expansion.ExpansionRefusal.TheVariants as R
+use Rattle.language_model.specs.declared.expansion.ExpansionError.TheVariants as E
+use Rattle.language_model.specs.Refusals.{named_refusal, unnamed_refusal}
 use Rattle.language_model.specs.Composites.{composites, composite_named}
 use Rattle.language_model.specs.Declarations.{first_of}
 use Rattle.language_model.specs.declared.expansion.Operation.{Operation}
@@ -145,10 +146,10 @@ keeps_on : (unit : List Definition) (x y z : Made) → Keeps unit x y → Keeps 
 keeps_on unit x y z f g = record { holds = g.holds; begins = begins_on x.expansions y.expansions z.expansions f.begins g.begins }
 
 pub within_is : (at : ℕ) (made next : Made) → if_within at made ≡ Ok next → made ≡ next
-within_is at made next e = elim (is_within made.ops) as (λ b. (if b then Ok made else Err (R.TooMany at)) ≡ Ok next → made ≡ next) [ true ↦ λ is. cc | false ↦ λ is. absurd cc ] e
+within_is at made next e = elim (is_within made.ops) as (λ b. (if b then Ok made else Err (unnamed_refusal E.TooMany at)) ≡ Ok next → made ≡ next) [ true ↦ λ is. cc | false ↦ λ is. absurd cc ] e
 
 within_holds : (at : ℕ) (made next : Made) → if_within at made ≡ Ok next → is_within made.ops ≡ true
-within_holds at made next e = elim (is_within made.ops) as (λ b. (if b then Ok made else Err (R.TooMany at)) ≡ Ok next → b ≡ true) [ true ↦ λ is. refl | false ↦ λ is. absurd cc ] e
+within_holds at made next e = elim (is_within made.ops) as (λ b. (if b then Ok made else Err (unnamed_refusal E.TooMany at)) ≡ Ok next → b ≡ true) [ true ↦ λ is. refl | false ↦ λ is. absurd cc ] e
 
 module _ (unit : List Definition) (p : Opened) (number : ℕ) (i : Invocation) (before next : Made) (h : Holds unit before) (stands : StandsIn p before)
     (there : slice_get p.body.composite.what.graph number ≡ Some i) where
@@ -270,7 +271,7 @@ module _ (unit : List Definition) (expands : Expands) (all : KeepsAll unit expan
   keeps_body : (c : At Composite) → target_of unit i.operator.what ≡ Body c → expanded_target expands p number i (Body c) before ≡ Ok next → Keeps unit before next
   keeps_body c target e =
       elim (fits_head c.what i)
-      as (λ b. (if b then after (inside c) (λ m. Ok (if_grown before m)) else Err (R.Ports (placed i.at i.operator.what))) ≡ Ok next → Keeps unit before next) [
+      as (λ b. (if b then after (inside c) (λ m. Ok (if_grown before m)) else Err (named_refusal E.Ports (placed i.at i.operator.what))) ≡ Ok next → Keeps unit before next) [
         | true ↦ λ is. body_keeps c (found unit i.operator.what c target) is
         | false ↦ λ is. absurd cc
       ] e

@@ -12,7 +12,8 @@ use Rattle.spl_tree.specs.declared.unit.Composite.{Composite}
 use Rattle.spl_tree.specs.declared.unit.Definition.{Definition}
 use Rattle.spl_tree.specs.declared.unit.Invocation.{Invocation}
 use Rattle.spl_tree.specs.Trees.{placed}
-use Rattle.language_model.specs.declared.expansion.ExpansionRefusal.TheVariants as R
+use Rattle.language_model.specs.declared.expansion.ExpansionError.TheVariants as E
+use Rattle.language_model.specs.Refusals.{named_refusal}
 use Rattle.language_model.specs.declared.expansion.Operation.{Operation}
 use Rattle.language_model.specs.Composites.{composites}
 use Rattle.language_model.specs.Declarations.{first_of}
@@ -232,7 +233,7 @@ module _ (unit : List Definition) (depth : ℕ) (expands : Expands) (does : Does
       (one_operator unit (site_in p number) i (operation before.expansions p number i kind) before is refl)
   one_target number i before next there (Body c) is e =
       elim (fits_head c.what i)
-      as (λ b. (if b then after (expands (opened_in p number i c before) (with_expansion (inlined p number c) before)) (λ m. Ok (if_grown before m)) else Err (R.Ports (placed i.at i.operator.what))) ≡ Ok next
+      as (λ b. (if b then after (expands (opened_in p number i c before) (with_expansion (inlined p number c) before)) (λ m. Ok (if_grown before m)) else Err (named_refusal E.Ports (placed i.at i.operator.what))) ≡ Ok next
       → One unit (site_in p number) i before next) [
         | true ↦ λ gives.
             let x = after_gives (expands (opened_in p number i c before) (with_expansion (inlined p number c) before)) (λ m. Ok (if_grown before m)) next gives in

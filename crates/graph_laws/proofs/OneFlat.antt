@@ -8,7 +8,8 @@ use Rattle.spl_tree.specs.declared.expression.Placed.{Placed}
 use Rattle.spl_tree.specs.declared.unit.Composite.{Composite}
 use Rattle.spl_tree.specs.declared.unit.Definition.{Definition}
 use Rattle.spl_tree.specs.Trees.{placed}
-use Rattle.language_model.specs.declared.expansion.ExpansionRefusal.TheVariants as R
+use Rattle.language_model.specs.declared.expansion.ExpansionError.TheVariants as E
+use Rattle.language_model.specs.Refusals.{named_refusal}
 use Rattle.language_model.specs.Composites.{composites}
 use Rattle.language_model.specs.Flat.{IsMain, flat_from, twice, no_main, recursive, expands}
 use Rattle.language_model.specs.FlatLaws.{OneFlatLaw}
@@ -83,7 +84,7 @@ one_main unit main other h k =
 
 -- what is declared twice, and where the main composite is, determine which answer it is
 pub one_flat_law : OneFlatLaw
-one_flat_law unit names x y (twice n e) (twice m f) = let same : n ≡ m = same_Some n m (sym e ∙ f) in ap (λ (p : Placed (List ℕ)). Err (R.Twice p)) same
+one_flat_law unit names x y (twice n e) (twice m f) = let same : n ≡ m = same_Some n m (sym e ∙ f) in ap (λ (p : Placed (List ℕ)). Err (named_refusal E.Twice p)) same
 one_flat_law unit names x y (twice n e) (no_main f g) = absurd cc
 one_flat_law unit names x y (twice n e) (recursive main m f g r) = absurd cc
 one_flat_law unit names x y (twice n e) (expands main f g r) = absurd cc
@@ -93,7 +94,7 @@ one_flat_law unit names x y (no_main e g) (recursive main m f h r) = absurd cc
 one_flat_law unit names x y (no_main e g) (expands main f h r) = absurd cc
 one_flat_law unit names x y (recursive main n e g r) (twice m f) = absurd cc
 one_flat_law unit names x y (recursive main n e g r) (no_main f h) = absurd cc
-one_flat_law unit names x y (recursive main n e g r) (recursive other m f h s) = ap (λ (p : Placed (List ℕ)). Err (R.Recursive p)) (one_recursion unit n m r s)
+one_flat_law unit names x y (recursive main n e g r) (recursive other m f h s) = ap (λ (p : Placed (List ℕ)). Err (named_refusal E.Recursive p)) (one_recursion unit n m r s)
 one_flat_law unit names x y (recursive main n e g r) (expands other f h s) = absurd (not_both unit n r s)
 one_flat_law unit names x y (expands main e g r) (twice m f) = absurd cc
 one_flat_law unit names x y (expands main e g r) (no_main f h) = absurd cc

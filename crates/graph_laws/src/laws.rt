@@ -1,7 +1,8 @@
 //! Laws of the definitions.
 ghost use Rattle.std.specs.Prelude.{◌≡◌, [], Some, None, Ok, Err, codes};
 ghost use Rattle.spl_tree.specs.Trees.{placed};
-ghost use Rattle.language_model.specs.declared.expansion.ExpansionRefusal.TheVariants as R;
+ghost use Rattle.language_model.specs.declared.expansion.ExpansionError.TheVariants as E;
+ghost use Rattle.language_model.specs.Refusals.{named_refusal};
 ghost use Rattle.language_model.specs.Composites.{main_of};
 ghost use Rattle.language_model.specs.Declarations.{declared_twice};
 ghost use Rattle.language_model.specs.Flat.{flat_from};
@@ -32,6 +33,6 @@ pub fn graphs_on_literals()
     ensures main { main_of reversed ≡ Some 1 }
     ensures acyclic { HasNoRecursion (composite_callers reversed) }
     ensures graph { flat_from reversed [] (at_place 1 reversed_main) ≡ Ok reversed_graph }
-    ensures waits { flat_from loop_of_two [] (only_composite loop_of_two) ≡ Err (R.Loop (placed 20 (codes "A"))) }
-    ensures undeclared { flat_from unknown_composite [] (at_place 0 reversed_main) ≡ Err (R.Unknown (placed 318 (codes "P"))) }
+    ensures waits { flat_from loop_of_two [] (only_composite loop_of_two) ≡ Err (named_refusal E.Loop (placed 20 (codes "A"))) }
+    ensures undeclared { flat_from unknown_composite [] (at_place 0 reversed_main) ≡ Err (named_refusal E.Unknown (placed 318 (codes "P"))) }
 {}

@@ -11,7 +11,8 @@ use Rattle.spl_tree.specs.declared.unit.Definition.{Definition}
 use Rattle.spl_tree.specs.declared.unit.Invocation.{Invocation}
 use Rattle.spl_tree.specs.Trees.{placed}
 use Rattle.language_model.specs.declared.expansion.ExpansionRefusal.{ExpansionRefusal}
-use Rattle.language_model.specs.declared.expansion.ExpansionRefusal.TheVariants as R
+use Rattle.language_model.specs.declared.expansion.ExpansionError.TheVariants as E
+use Rattle.language_model.specs.Refusals.{named_refusal, unnamed_refusal}
 use Rattle.language_model.specs.declared.expansion.Operation.{Operation}
 use Rattle.language_model.specs.declared.expansion.Source.{Source}
 pub use Rattle.language_model.specs.After.{after}
@@ -93,7 +94,7 @@ operation es p number i kind =
 
 -- there are at most 256 operators, and their ports take fewer than 2^30 streams together
 abbrev pub if_within : ℕ → Made → Expanded Made
-if_within at made = if nat_le (length made.ops) 256 && nat_lt (sum_by (λ op. sum_by length op.ins) made.ops) (2 ^ 30) then Ok made else Err (R.TooMany at)
+if_within at made = if nat_le (length made.ops) 256 && nat_lt (sum_by (λ op. sum_by length op.ins) made.ops) (2 ^ 30) then Ok made else Err (unnamed_refusal E.TooMany at)
 
 -- ---- composites
 
@@ -118,13 +119,13 @@ expanded_target expands p number i (Body c) made =
     if fits_head c.what i
     then after (expands (opened_in p number i c made) (record { ops = made.ops; expansions = made.expansions ++ inlined p number c ∷ [] }))
     (λ m. Ok (if length made.ops == length m.ops then made else m))
-    else Err (R.Ports (placed i.at i.operator.what))
-expanded_target expands p number i Nothing made = Err (R.Unknown i.operator)
+    else Err (named_refusal E.Ports (placed i.at i.operator.what))
+expanded_target expands p number i Nothing made = Err (named_refusal E.Unknown i.operator)
 
 -- what isn't declared is refused first
 abbrev pub expanded_invocation : Expands → List Definition → Opened → ℕ → Invocation → Made → Expanded Made
 expanded_invocation expands unit p number i made =
-    option_map_or (λ n. Err (R.Unknown n)) (first_of (undeclared unit p.body.composite.what i))
+    option_map_or (λ n. Err (named_refusal E.Unknown n)) (first_of (undeclared unit p.body.composite.what i))
     (expanded_target expands p number i (target_of unit i.operator.what) made)
 
 -- the invocations of a graph one after another, from a number on

@@ -29,6 +29,7 @@ pub mod Mentions
 pub mod Declarations
 pub mod Composites
 pub mod Recursion
+pub mod Refusals
 pub mod Invoking
 pub mod Expansion
 pub mod Numbering

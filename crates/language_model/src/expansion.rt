@@ -1,30 +1,41 @@
-use spl_tree::{OpKind, Placed, Site};
+//! What comes of the expansion of composites: its refusals, and the parts of graphs in which streams have no
+//! numbers yet.
+
+use spl_tree::{OpKind, Site};
 use spl_value::{Items, Name};
 
-/// Why a program has no graph, with the byte of the program at which that is seen, and the name that it
-/// is about.
-#[derive(Drop)]
-pub enum ExpansionRefusal {
+/// Why a program has no graph.
+#[derive(Clone, Copy)]
+pub enum ExpansionError {
     /// There is no main composite. The place is 0.
     NoMain,
     /// A composite or function reaches itself: the first call or invocation in its body that leads back
     /// to it, and its name.
-    Recursive(Placed<Name>),
+    Recursive,
     /// A name is declared twice in one place: the later one.
-    Twice(Placed<Name>),
+    Twice,
     /// The invocation of the first operator that waits for itself, or for one that does, and the
     /// operator's first stream, or its own name where it makes none.
-    Loop(Placed<Name>),
-    /// The invocation of an operator with a file that another one or the command line has as well, and
-    /// the file.
-    SameFile(Placed<Name>),
+    Loop,
+    /// The invocation of the later of two operators with one file, at least one of which is a sink, or that of a
+    /// sink with a file of the command line; and the file.
+    SameFile,
     /// The invocation with whose operator there are too many operators or connections.
-    TooMany(u32),
+    TooMany,
     /// An operator, a stream or a `$` parameter that isn't declared.
-    Unknown(Placed<Name>),
+    Unknown,
     /// The invocation of a composite that doesn't fit its head, or one of whose outputs nothing makes,
     /// and the composite.
-    Ports(Placed<Name>),
+    Ports,
+}
+
+/// A refusal by the expansion: the byte of the program at which it comes, and the name that it is about,
+/// where it is about one.
+#[derive(Drop)]
+pub struct ExpansionRefusal {
+    pub error: ExpansionError,
+    pub at: u32,
+    pub name: Option<Name>,
 }
 
 /// The stream that a name of a graph means in an expansion: the number of the expansion, and the

@@ -11,6 +11,7 @@ mod flow;
 mod kinds;
 mod named;
 mod outs;
+mod refusal;
 mod scope;
 mod signatures;
 
@@ -23,7 +24,7 @@ pub use checked::{
 };
 pub use checked_graph::Checked;
 pub use env::{Env, Tuples};
-pub use expansion::{ExpansionRefusal, Operation, Source};
+pub use expansion::{ExpansionError, ExpansionRefusal, Operation, Source};
 pub use flow::Flow;
 pub use kinds::{
     KINDS, KindRules, OutputForm, ParameterRule, PortBounds, Presence, Role, WindowForm,
@@ -32,6 +33,7 @@ pub use named::{
     attribute_named, dollar_named, function_named, port_named, unresolved_named, variable_named,
 };
 pub use outs::{Output, Outs};
+pub use refusal::{Code, Refusal, code_text, has_name};
 pub use scope::{
     CheckError, CheckRefusal, Dollar, Port, Scope, Signature, Typed, Unresolved, Variable,
 };

@@ -1,7 +1,7 @@
 //! The lines that tell why the program ended.
 use crate::shown::add_held;
-use language_model::CheckError as Check;
-use run_report::{Cause, Code, ExpansionError as Expansion, Refusal, status_text};
+use language_model::{CheckError as Check, ExpansionError as Expansion};
+use run_report::{Cause, Code, Refusal, status_text};
 use spl_tree::LexicalError as Lexical;
 use spl_value::{Items, NoMemory};
 use std::alloc::{AllocError, Global};

@@ -1,4 +1,3 @@
-pub mod Refusals
 pub mod Texts
 pub mod PlanTexts
 pub mod PlanTextLaws

@@ -5,64 +5,18 @@ use Rattle.std.specs.Option.{option_map_or}
 use Rattle.spl_value.specs.declared.item.Fault.{Fault}
 use Rattle.spl_value.specs.declared.item.FaultKind.{FaultKind}
 use Rattle.spl_value.specs.declared.item.FaultKind.TheVariants as K
-use Rattle.spl_tree.specs.declared.token.LexicalError.TheVariants as L
-use Rattle.language_model.specs.declared.scope.CheckError.TheVariants as Q
+use Rattle.language_model.specs.declared.refusal.Refusal.{Refusal}
 use Rattle.language_model.specs.CheckedGraph.{CheckedGraph}
+use Rattle.language_model.specs.Refusals.{told_code}
 use Rattle.run_report.specs.declared.cause.Cause.{Cause}
 use Rattle.run_report.specs.declared.cause.Cause.TheVariants as W
-use Rattle.run_report.specs.declared.refusal.Code.{Code}
-use Rattle.run_report.specs.declared.refusal.Code.TheVariants as C
-use Rattle.run_report.specs.declared.refusal.ExpansionError.TheVariants as E
-use Rattle.run_report.specs.declared.refusal.Refusal.{Refusal}
 
 -- ---- refusals
 
--- the code that is told
-abbrev pub code_text : Code → List ℕ
-code_text (C.Lexical L.BadByte) = codes "L1"
-code_text (C.Lexical L.OpenText) = codes "L2"
-code_text (C.Lexical L.OpenComment) = codes "L3"
-code_text (C.Lexical L.BadNumber) = codes "L4"
-code_text (C.Lexical L.TooLong) = codes "L5"
-code_text C.Unexpected = codes "S1"
-code_text C.TooDeep = codes "S2"
-code_text (C.Expansion E.NoMain) = codes "E1"
-code_text (C.Expansion E.Recursive) = codes "E2"
-code_text (C.Expansion E.Twice) = codes "E3"
-code_text (C.Expansion E.Loop) = codes "E4"
-code_text (C.Expansion E.SameFile) = codes "E5"
-code_text (C.Expansion E.TooMany) = codes "E6"
-code_text (C.Expansion E.Unknown) = codes "E7"
-code_text (C.Expansion E.Ports) = codes "E8"
-code_text (C.Check Q.Unknown) = codes "Y1"
-code_text (C.Check Q.Mismatch) = codes "Y2"
-code_text (C.Check Q.NotMutable) = codes "Y3"
-code_text (C.Check Q.WrongCall) = codes "Y4"
-code_text (C.Check Q.LeftOut) = codes "Y5"
-code_text (C.Check Q.NoReturn) = codes "Y6"
-code_text (C.Check Q.MissingParameter) = codes "C1"
-code_text (C.Check Q.ExtraParameter) = codes "C2"
-code_text (C.Check Q.BadWindow) = codes "C3"
-code_text (C.Check Q.BadOutput) = codes "C4"
-code_text (C.Check Q.PortCount) = codes "C5"
-code_text (C.Check Q.NoTextForm) = codes "C6"
-
--- a refusal with this code is told with its name
-abbrev pub has_name : Code → Bool
-has_name (C.Expansion E.NoMain) = false
-has_name (C.Expansion E.TooMany) = false
-has_name (C.Expansion error) = true
-has_name (C.Check Q.Unknown) = true
-has_name (C.Check Q.LeftOut) = true
-has_name (C.Check Q.NoReturn) = true
-has_name (C.Check Q.MissingParameter) = true
-has_name (C.Check Q.ExtraParameter) = true
-has_name _ = false
-
 abbrev pub refusal_text : Refusal → List ℕ
 refusal_text refusal =
-    codes "refused " ++ code_text refusal.code ++ codes " at " ++ decimal refusal.at
-    ++ option_map_or (λ name. codes " " ++ name) (if has_name refusal.code then refusal.name else None) [] ++ codes "\n"
+    codes "refused " ++ (told_code refusal.code).0 ++ codes " at " ++ decimal refusal.at
+    ++ option_map_or (λ name. codes " " ++ name) (if (told_code refusal.code).1 then refusal.name else None) [] ++ codes "\n"
 
 -- ---- faults
 
@@ -97,7 +51,7 @@ stopped_text name fault =
 abbrev pub operator_name : Option CheckedGraph → ℕ → List ℕ
 operator_name c n = option_map_or (λ op. op.name) (option_and_then (λ c. slice_get c.graph.ops n) c) []
 
--- nothing is told where all was done; the operator is that for which an arrival record isn't whole
+-- nothing is told where the request was carried out; the operator is the first for which an arrival record isn't whole
 abbrev pub status_text : Option CheckedGraph → Cause → List ℕ
 status_text c W.Done = []
 status_text c W.BadWords = codes "bad words\n"

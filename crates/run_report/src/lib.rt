@@ -7,14 +7,13 @@ mod count_lines;
 mod examples;
 mod laws;
 mod plan_lines;
-mod refusal;
 mod status;
 
 pub use cause::Cause;
 pub use check::check_text;
 pub use count_lines::counts_text;
 pub use examples::{count_texts_on_literals, plan_texts_on_literals};
+pub use language_model::{Code, Refusal};
 pub use laws::key_names_law;
 pub use plan_lines::plan_text;
-pub use refusal::{Code, ExpansionError, Refusal};
 pub use status::status_text;

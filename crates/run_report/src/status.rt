@@ -1,126 +1,18 @@
 //! The line that tells why the program ended.
 ghost use Rattle.std.specs.Prelude.{◌≡◌, ◌++◌, codes, None, if◌then◌else◌, IfOk};
 ghost use Rattle.std.specs.Option.{option_copied};
-ghost use Rattle.run_report.specs.Texts.{code_text, has_name, refusal_text, kind_text, has_line, stopped_text, operator_name, status_text};
+ghost use Rattle.language_model.specs.Refusals.{told_code};
+ghost use Rattle.run_report.specs.Texts.{refusal_text, kind_text, has_line, stopped_text, operator_name, status_text};
 
-use crate::{Cause, Code, ExpansionError, Refusal};
+use crate::Cause;
 use itoa::Buffer;
-use language_model::{CheckError, Checked};
-use spl_tree::LexicalError;
+use language_model::{Checked, Refusal, code_text, has_name};
 use spl_value::{Bytes, Fault, FaultKind, Items, Name, NoMemory};
 use std::alloc::Global;
 
-// The code of bytes that are no tokens.
-fn lexical_code(error: LexicalError) -> &'static [u8]
-    ensures { result.now ≡ code_text (Code.Lexical error) }
-{
-    match error {
-        LexicalError::BadByte => b"L1",
-        LexicalError::OpenText => b"L2",
-        LexicalError::OpenComment => b"L3",
-        LexicalError::BadNumber => b"L4",
-        LexicalError::TooLong => b"L5",
-    }
-}
-
-// The code of composites that don't expand to a graph.
-fn expansion_code(error: ExpansionError) -> &'static [u8]
-    ensures { result.now ≡ code_text (Code.Expansion error) }
-{
-    match error {
-        ExpansionError::NoMain => b"E1",
-        ExpansionError::Recursive => b"E2",
-        ExpansionError::Twice => b"E3",
-        ExpansionError::Loop => b"E4",
-        ExpansionError::SameFile => b"E5",
-        ExpansionError::TooMany => b"E6",
-        ExpansionError::Unknown => b"E7",
-        ExpansionError::Ports => b"E8",
-    }
-}
-
-// The code of a graph whose types or clauses don't fit.
-fn check_code(error: CheckError) -> &'static [u8]
-    ensures { result.now ≡ code_text (Code.Check error) }
-{
-    match error {
-        CheckError::Unknown => b"Y1",
-        CheckError::Mismatch => b"Y2",
-        CheckError::NotMutable => b"Y3",
-        CheckError::WrongCall => b"Y4",
-        CheckError::LeftOut => b"Y5",
-        CheckError::NoReturn => b"Y6",
-        CheckError::MissingParameter => b"C1",
-        CheckError::ExtraParameter => b"C2",
-        CheckError::BadWindow => b"C3",
-        CheckError::BadOutput => b"C4",
-        CheckError::PortCount => b"C5",
-        CheckError::NoTextForm => b"C6",
-    }
-}
-
-// The code of a refusal, as it is told.
-fn code(code: Code) -> &'static [u8]
-    ensures { result.now ≡ code_text code }
-{
-    match code {
-        Code::Lexical(error) => lexical_code(error),
-        Code::Unexpected => b"S1",
-        Code::TooDeep => b"S2",
-        Code::Expansion(error) => expansion_code(error),
-        Code::Check(error) => check_code(error),
-    }
-}
-
-// Whether a refusal by the expansion is told with its name.
-fn names_expansion(error: ExpansionError) -> bool
-    ensures { result ≡ has_name (Code.Expansion error) }
-{
-    match error {
-        ExpansionError::NoMain | ExpansionError::TooMany => false,
-        ExpansionError::Recursive
-        | ExpansionError::Twice
-        | ExpansionError::Loop
-        | ExpansionError::SameFile
-        | ExpansionError::Unknown
-        | ExpansionError::Ports => true,
-    }
-}
-
-// Whether a refusal by the rules of types and clauses is told with its name.
-fn names_check(error: CheckError) -> bool
-    ensures { result ≡ has_name (Code.Check error) }
-{
-    match error {
-        CheckError::Unknown
-        | CheckError::LeftOut
-        | CheckError::NoReturn
-        | CheckError::MissingParameter
-        | CheckError::ExtraParameter => true,
-        CheckError::Mismatch
-        | CheckError::NotMutable
-        | CheckError::WrongCall
-        | CheckError::BadWindow
-        | CheckError::BadOutput
-        | CheckError::PortCount
-        | CheckError::NoTextForm => false,
-    }
-}
-
-// Whether a refusal with that code is told with its name.
-fn has_name(code: Code) -> bool
-    ensures { result ≡ has_name code }
-{
-    match code {
-        Code::Lexical(_) | Code::Unexpected | Code::TooDeep => false,
-        Code::Expansion(error) => names_expansion(error),
-        Code::Check(error) => names_check(error),
-    }
-}
-
-// The name that a refusal is told with.
+// The name that a refusal is told with, if any.
 fn name(refusal: &Refusal) -> Option<&Name>
-    ensures { option_copied result ≡ (if has_name refusal.now.code then refusal.now.name else None) }
+    ensures { option_copied result ≡ (if (told_code refusal.now.code).1 then refusal.now.name else None) }
 {
     if has_name(refusal.code) {
         refusal.name.as_ref()
@@ -136,7 +28,7 @@ fn refusal_line(alloc: Global, refusal: &Refusal) -> Result<Bytes, NoMemory>
     let mut line = Vec::new(alloc);
     let mut digits = Buffer::new();
     line.extend_from_slice(b"refused ")?;
-    line.extend_from_slice(code(refusal.code))?;
+    line.extend_from_slice(code_text(refusal.code))?;
     line.extend_from_slice(b" at ")?;
     line.extend_from_slice(digits.format(refusal.at).as_bytes())?;
     if let Some(name) = name(refusal) {
@@ -230,9 +122,9 @@ fn bad_arrivals_line(
     }
 }
 
-/// The line that tells why the program ended. It is empty where all was done. The graph is needed where
-/// a run ended with a fault, or an arrival record isn't whole for an operator, which is told by its name: the
-/// name is empty where the operator isn't there.
+/// The line that tells why the program ended. It is empty where the request was carried out. `checked` gives
+/// the operator's name after a fault, and after an arrival record that isn't whole; where it lacks the operator,
+/// the name is empty.
 pub fn status_text(
     alloc: Global,
     checked: Option<&Checked>,

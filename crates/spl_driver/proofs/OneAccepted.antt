@@ -11,7 +11,10 @@ use Rattle.expr_parser.specs.declared.answer.SyntaxAnswer.{SyntaxAnswer}
 use Rattle.expr_parser.specs.declared.answer.SyntaxAnswer.TheVariants as S
 use Rattle.unit_parser.specs.Parses.{ParsesUnit, OneAnswerLaw}
 use Rattle.language_model.specs.declared.scope.CheckRefusal.{CheckRefusal}
-use Rattle.language_model.specs.Accepted.{ProgramRefusal, Lexical, Unexpected, TooDeep, Expansion, IsAccepted, no_tokens, too_deep, unexpected, no_graph, checks}
+use Rattle.language_model.specs.declared.refusal.Refusal.{Refusal}
+use Rattle.language_model.specs.declared.refusal.Code.TheVariants as C
+use Rattle.language_model.specs.Refusals.{expansion_refusal, refusal_by}
+use Rattle.language_model.specs.Accepted.{IsAccepted, no_tokens, too_deep, unexpected, no_graph, checks}
 use Rattle.language_model.proofs.parts.Accepted.{refused_check}
 use Rattle.language_model.specs.CheckedGraph.{CheckedGraph}
 use Rattle.language_model.specs.Checking.{checked}
@@ -23,26 +26,26 @@ use Rattle.check_laws.specs.KeepsLaw.{KeepsLaw}
 use Rattle.spl_driver.specs.AcceptedLaws.{OneAcceptedLaw, KeptLaw}
 
 abbrev Come : Type 0
-Come = Result CheckedGraph ProgramRefusal
+Come = Result CheckedGraph Refusal
 
 ---- the result of a program, stage by stage
 
 -- the result of a unit whose graph or refusal is this
 abbrev behind_graph : List Definition → Expanded Graph → Come
 behind_graph unit (Ok g) = refused_check (checked unit g)
-behind_graph unit (Err refusal) = Err (Expansion refusal)
+behind_graph unit (Err refusal) = Err (expansion_refusal refusal)
 
 -- the result of tokens of which this is answered
 abbrev BehindAnswer : List (List ℕ) → Result (List Definition) SyntaxAnswer → Come → Type 0
 BehindAnswer names (Ok unit) x = (found : Expanded Graph) × IsFlat unit names found × (x ≡ behind_graph unit found)
-BehindAnswer names (Err (S.Unexpected at)) x = x ≡ Err (Unexpected at)
-BehindAnswer names (Err (S.TooDeep at)) x = x ≡ Err (TooDeep at)
+BehindAnswer names (Err (S.Unexpected at)) x = x ≡ Err (refusal_by C.Unexpected at)
+BehindAnswer names (Err (S.TooDeep at)) x = x ≡ Err (refusal_by C.TooDeep at)
 BehindAnswer names (Err S.Memory) x = ⊥
 
 -- the result of bytes whose tokens or refusal this is
 abbrev BehindTokens : List (List ℕ) → Result Tokens lexical.Refusal → Come → Type 0
 BehindTokens names (Ok ts) x = (answer : Result (List Definition) SyntaxAnswer) × ParsesUnit ts answer × BehindAnswer names answer x
-BehindTokens names (Err refusal) x = x ≡ Err (Lexical refusal.0 refusal.1)
+BehindTokens names (Err refusal) x = x ≡ Err (refusal_by (C.Lexical refusal.0) refusal.1)
 
 -- what follows from the tokens or the refusal that bytes have follows from what is computed of them
 of_computed : LexedLaw → (bytes : List ℕ) (names : List (List ℕ)) (r : Result Tokens lexical.Refusal) (x : Come) → IsLexed bytes r → BehindTokens names r x
@@ -50,11 +53,11 @@ of_computed : LexedLaw → (bytes : List ℕ) (names : List (List ℕ)) (r : Res
 of_computed lexed bytes names r x is behind = subst (λ s. BehindTokens names s x) (sym ((lexed bytes r).0 is)) behind
 
 by_stages : LexedLaw → (bytes : List ℕ) (names : List (List ℕ)) (x : Come) → IsAccepted bytes names x → BehindTokens names (tokens bytes) x
-by_stages lexed bytes names x (no_tokens error at is) = of_computed lexed bytes names (Err (error, at)) (Err (Lexical error at)) is refl
-by_stages lexed bytes names x (too_deep ts at is deep) = of_computed lexed bytes names (Ok ts) (Err (TooDeep at)) is (Err (S.TooDeep at), deep, refl)
-by_stages lexed bytes names x (unexpected ts at is refused) = of_computed lexed bytes names (Ok ts) (Err (Unexpected at)) is (Err (S.Unexpected at), refused, refl)
+by_stages lexed bytes names x (no_tokens error at is) = of_computed lexed bytes names (Err (error, at)) (Err (refusal_by (C.Lexical error) at)) is refl
+by_stages lexed bytes names x (too_deep ts at is deep) = of_computed lexed bytes names (Ok ts) (Err (refusal_by C.TooDeep at)) is (Err (S.TooDeep at), deep, refl)
+by_stages lexed bytes names x (unexpected ts at is refused) = of_computed lexed bytes names (Ok ts) (Err (refusal_by C.Unexpected at)) is (Err (S.Unexpected at), refused, refl)
 by_stages lexed bytes names x (no_graph ts unit refusal is spells flat) =
-    of_computed lexed bytes names (Ok ts) (Err (Expansion refusal)) is (Ok unit, spells, (Err refusal, flat, refl))
+    of_computed lexed bytes names (Ok ts) (Err (expansion_refusal refusal)) is (Ok unit, spells, (Err refusal, flat, refl))
 by_stages lexed bytes names x (checks ts unit g is spells flat) =
     of_computed lexed bytes names (Ok ts) (refused_check (checked unit g)) is (Ok unit, spells, (Ok g, flat, refl))
 

@@ -7,11 +7,12 @@ use Rattle.spl_tree.specs.declared.token.LexicalError.TheVariants.{TooLong}
 use Rattle.feed_pour.specs.Contents.{Told}
 use Rattle.feed_pour.specs.Named.{FetchedOf}
 use Rattle.feed_pour.specs.declared.named.Fetched.TheVariants as F
-use Rattle.language_model.specs.Accepted.{ProgramRefusal, Lexical, IsAccepted, no_tokens, too_deep, unexpected, no_graph, checks}
+use Rattle.language_model.specs.declared.refusal.Refusal.{Refusal}
+use Rattle.language_model.specs.declared.refusal.Code.TheVariants as C
+use Rattle.language_model.specs.Refusals.{refusal_by}
+use Rattle.language_model.specs.Accepted.{IsAccepted, no_tokens, too_deep, unexpected, no_graph, checks}
 use Rattle.language_model.specs.CheckedGraph.{CheckedGraph}
 use Rattle.language_model.specs.Checking.{checked}
-use Rattle.run_report.specs.declared.refusal.Refusal.{Refusal}
-use Rattle.run_report.specs.Refusals.{refusal_of}
 use Rattle.check_laws.specs.Files.{OwnFiles}
 use Rattle.check_laws.specs.OwnFilesLaw.{OwnFilesLaw}
 use Rattle.spl_driver.specs.AcceptedLaws.{TooLongLaw}
@@ -24,31 +25,26 @@ use Rattle.spl_driver.proofs.Fetching.{no_fault, long_fault}
 use Rattle.spl_driver.proofs.OneAccepted.{found_is}
 
 pub compiled_long : (told : Option Told) (program : List ℕ) (names : List (List ℕ)) (refusal : Refusal) → TooLongLaw
-    → IfSome told (λ t. FetchedOf (t.script program) F.TooLong 1048576) → refusal ≡ refusal_of (Lexical TooLong 1048576)
+    → IfSome told (λ t. FetchedOf (t.script program) F.TooLong 1048576) → refusal ≡ refusal_by (C.Lexical TooLong) 1048576
     → IfSome told (λ t. CompiledAt (P.Refused refusal) (t.script program) names)
 compiled_long None program names refusal law h is = tt
 compiled_long (Some t) program names refusal law h is =
-    (long_fault 1048576 (t.script program) h, (Lexical TooLong 1048576, law (t.script program).bytes names h, is))
+    subst (λ (r : Refusal). CompiledAt (P.Refused r) (t.script program) names) (sym is) (long_fault 1048576 (t.script program) h, law (t.script program).bytes names h)
 
--- some program has this refusal
-abbrev SomeRefused : List (List ℕ) → Refusal → Type 0
-SomeRefused names refusal = (bytes : List ℕ) × (p : ProgramRefusal) × IsAccepted bytes names (Err p) × (refusal ≡ refusal_of p)
-
-long_by : (n : ℕ) (names : List (List ℕ)) (refusal : Refusal) → 1048576 < n → TooLongLaw → refusal ≡ refusal_of (Lexical TooLong 1048576) → SomeRefused names refusal
-long_by n names refusal more law is =
+long_by : (n : ℕ) (names : List (List ℕ)) → 1048576 < n → TooLongLaw → (bytes : List ℕ) × IsAccepted bytes names (Err (refusal_by (C.Lexical TooLong) 1048576))
+long_by n names more law =
     let zeros : List ℕ = replicate n 0 in
     let long : length zeros ≡ n = length-replicate n 0 in
-    (zeros, Lexical TooLong 1048576, law zeros names (omega (arith, more, long)), is)
+    (zeros, law zeros names (omega (arith, more, long)))
 
-pub some_long : (names : List (List ℕ)) (refusal : Refusal) → TooLongLaw → refusal ≡ refusal_of (Lexical TooLong 1048576) → (bytes : List ℕ) × (p : ProgramRefusal) × IsAccepted bytes names (Err p) × (refusal ≡ refusal_of p)
-some_long names refusal law is = long_by 1048577 names refusal (omega arith) law is
+-- some program has this refusal
+pub some_long : (names : List (List ℕ)) (refusal : Refusal) → TooLongLaw → refusal ≡ refusal_by (C.Lexical TooLong) 1048576 → (bytes : List ℕ) × IsAccepted bytes names (Err refusal)
+some_long names refusal law is = subst (λ (r : Refusal). (bytes : List ℕ) × IsAccepted bytes names (Err r)) (sym is) (long_by 1048577 names (omega arith) law)
 
 -- the refusal of the bytes of a program
 pub refused_bytes : (bytes : List ℕ) (names : List (List ℕ)) (answer : CompileAnswer) (refusal : Refusal) → answer ≡ N.Refused refusal → IsCompiled bytes names (Err answer)
-    → (bs : List ℕ) × (p : ProgramRefusal) × IsAccepted bs names (Err p) × (refusal ≡ refusal_of p)
-refused_bytes bytes names answer refusal is h =
-    let at : IsCompiled bytes names (Err (N.Refused refusal)) = subst (λ (a : CompileAnswer). IsCompiled bytes names (Err a)) is h in
-    (bytes, at.0, at.1, at.2)
+    → (bs : List ℕ) × IsAccepted bs names (Err refusal)
+refused_bytes bytes names answer refusal is h = (bytes, subst (λ (a : CompileAnswer). IsCompiled bytes names (Err a)) is h)
 
 bytes_read : (s : Script) (bytes : List ℕ) → FetchedOf s (F.Whole bytes) 1048576 → bytes ≡ s.bytes
 bytes_read s bytes h = sym (ap (λ (x : Script). x.bytes) h.0)
@@ -64,10 +60,10 @@ pub refused_whole : (told : Option Told) (program bytes : List ℕ) (names : Lis
     → IfSome told (λ t. FetchedOf (t.script program) (F.Whole bytes) 1048576) → IsCompiled bytes names (Err (N.Refused refusal))
     → IfSome told (λ t. CompiledAt (P.Refused refusal) (t.script program) names)
 refused_whole None program bytes names refusal h is = tt
-refused_whole (Some t) program bytes names refusal h (p, is, same) =
-    (no_fault 1048576 (t.script program) bytes h, (p, subst (λ (bs : List ℕ). IsAccepted bs names (Err p)) (bytes_read (t.script program) bytes h) is, same))
+refused_whole (Some t) program bytes names refusal h is =
+    (no_fault 1048576 (t.script program) bytes h, subst (λ (bs : List ℕ). IsAccepted bs names (Err refusal)) (bytes_read (t.script program) bytes h) is)
 
-files_by : (bytes : List ℕ) (names : List (List ℕ)) (r : Result CheckedGraph ProgramRefusal) (c : CheckedGraph) → OwnFilesLaw → IsAccepted bytes names r
+files_by : (bytes : List ℕ) (names : List (List ℕ)) (r : Result CheckedGraph Refusal) (c : CheckedGraph) → OwnFilesLaw → IsAccepted bytes names r
     → r ≡ Ok c → OwnFiles names c.parts
 files_by bytes names _ c law (no_tokens error at is) e = cc
 files_by bytes names _ c law (too_deep ts at is deep) e = cc

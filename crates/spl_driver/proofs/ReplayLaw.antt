@@ -34,7 +34,6 @@ use Rattle.spl_driver.specs.Outcome.{RequestOutcome, NoRequest, Unreadable, Refu
 use Rattle.spl_driver.specs.Answer.{Answered, CauseMeans, EachSink, HoldsText, IsRecordOf, IsRun, RecordHolds, RunsTo, cause_of, counts_of, CarriedOut}
 use Rattle.spl_driver.specs.ReplayLaws.{AreReadAlike, EndAlike, ReplayLaw, SameFilesLaw}
 use Rattle.spl_driver.specs.RequestLaws.{OneOutcomeLaw}
-use Rattle.run_report.specs.Refusals.{refusal_of}
 use Rattle.spl_driver.specs.declared.ended.Ended.{Ended}
 use Rattle.spl_driver.proofs.Preparing.{part_there}
 use Rattle.spl_value.proofs.Bools.{or_true}
@@ -52,7 +51,7 @@ pub run_at : (t : Told) (arrivals : Arrivals) (request : Option Request) (r : Re
 run_at t arrivals request r program options c g m no_request q e = absurd (let bad : NoRequest ≡ Runs c g m = e in cc)
 run_at t arrivals request r program options c g m (not_built asked other) q e = absurd (let bad : NotBuilt ≡ Runs c g m = e in cc)
 run_at t arrivals request r program options c g m (unreadable asked p built of fault) q e = absurd (let bad : Unreadable p ≡ Runs c g m = e in cc)
-run_at t arrivals request r program options c g m (refused asked p refusal built of found) q e = absurd (let bad : Refused (refusal_of refusal) ≡ Runs c g m = e in cc)
+run_at t arrivals request r program options c g m (refused asked p refusal built of found) q e = absurd (let bad : Refused refusal ≡ Runs c g m = e in cc)
 run_at t arrivals request r program options c g m (checks p x found) q e = absurd (let bad : Reports OfSize x ≡ Runs c g m = e in cc)
 run_at t arrivals request r program options c g m (plans p x found) q e = absurd (let bad : Reports OfPlan x ≡ Runs c g m = e in cc)
 run_at t arrivals request r program options c g m (runs p o x plain found) q e =
@@ -189,7 +188,7 @@ run_reports : (t : Told) (arrivals : Arrivals) (request : Option Request) (r : R
 run_reports t arrivals request r program options report x no_request q e = absurd (let bad : NoRequest ≡ Reports report x = e in cc)
 run_reports t arrivals request r program options report x (not_built asked other) q e = absurd (let bad : NotBuilt ≡ Reports report x = e in cc)
 run_reports t arrivals request r program options report x (unreadable asked p built of fault) q e = absurd (let bad : Unreadable p ≡ Reports report x = e in cc)
-run_reports t arrivals request r program options report x (refused asked p refusal built of found) q e = absurd (let bad : Refused (refusal_of refusal) ≡ Reports report x = e in cc)
+run_reports t arrivals request r program options report x (refused asked p refusal built of found) q e = absurd (let bad : Refused refusal ≡ Reports report x = e in cc)
 run_reports t arrivals request r program options report x (checks p y found) q e = absurd (let bad : Some (R.Check p) ≡ Some (R.Run program options) = q in cc)
 run_reports t arrivals request r program options report x (plans p y found) q e = absurd (let bad : Some (R.Plan p) ≡ Some (R.Run program options) = q in cc)
 run_reports t arrivals request r program options report x (runs p o y plain found) q e = absurd (let bad : Runs y (graph_of y) (meant (graph_of y) t arrivals.lists) ≡ Reports report x = e in cc)
@@ -246,7 +245,7 @@ replay_at : (u : Told) (other : Arrivals) (request : Option Request) (r : Reques
 replay_at u other request r program file y h n no_request q e = absurd (let bad : NoRequest ≡ Runs y h n = e in cc)
 replay_at u other request r program file y h n (not_built asked unbuilt) q e = absurd (let bad : NotBuilt ≡ Runs y h n = e in cc)
 replay_at u other request r program file y h n (unreadable asked p built of fault) q e = absurd (let bad : Unreadable p ≡ Runs y h n = e in cc)
-replay_at u other request r program file y h n (refused asked p refusal built of found) q e = absurd (let bad : Refused (refusal_of refusal) ≡ Runs y h n = e in cc)
+replay_at u other request r program file y h n (refused asked p refusal built of found) q e = absurd (let bad : Refused refusal ≡ Runs y h n = e in cc)
 replay_at u other request r program file y h n (checks p x found) q e = absurd (let bad : Reports OfSize x ≡ Runs y h n = e in cc)
 replay_at u other request r program file y h n (plans p x found) q e = absurd (let bad : Reports OfPlan x ≡ Runs y h n = e in cc)
 replay_at u other request r program file y h n (runs p o x plain found) q e = absurd (let bad : Some (R.Run p o) ≡ Some (R.Replay program file) = q in cc)
@@ -263,7 +262,7 @@ replay_reports : (u : Told) (other : Arrivals) (request : Option Request) (r : R
 replay_reports u other request r program file report x no_request q e = absurd (let bad : NoRequest ≡ Reports report x = e in cc)
 replay_reports u other request r program file report x (not_built asked unbuilt) q e = absurd (let bad : NotBuilt ≡ Reports report x = e in cc)
 replay_reports u other request r program file report x (unreadable asked p built of fault) q e = absurd (let bad : Unreadable p ≡ Reports report x = e in cc)
-replay_reports u other request r program file report x (refused asked p refusal built of found) q e = absurd (let bad : Refused (refusal_of refusal) ≡ Reports report x = e in cc)
+replay_reports u other request r program file report x (refused asked p refusal built of found) q e = absurd (let bad : Refused refusal ≡ Reports report x = e in cc)
 replay_reports u other request r program file report x (checks p y found) q e = absurd (let bad : Some (R.Check p) ≡ Some (R.Replay program file) = q in cc)
 replay_reports u other request r program file report x (plans p y found) q e = absurd (let bad : Some (R.Plan p) ≡ Some (R.Replay program file) = q in cc)
 replay_reports u other request r program file report x (runs p o y plain found) q e = absurd (let bad : Some (R.Run p o) ≡ Some (R.Replay program file) = q in cc)

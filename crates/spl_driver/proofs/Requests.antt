@@ -3,10 +3,10 @@ use Rattle.std.proofs.Common.{◌≡◌, ◌∙◌, ℕ, Bool, true, false, List
 use Rattle.std.specs.Prelude.{option_and_then}
 use Rattle.feed_pour.specs.Contents.{Told}
 use Rattle.language_model.specs.declared.checked.CheckedClauses.{CheckedClauses}
-use Rattle.language_model.specs.Accepted.{ProgramRefusal, IsAccepted}
+use Rattle.language_model.specs.declared.refusal.Refusal.{Refusal}
+use Rattle.language_model.specs.Accepted.{IsAccepted}
 use Rattle.language_model.specs.CheckedGraph.{CheckedGraph}
 use Rattle.stream_model.specs.declared.record.Arrivals.{Arrivals}
-use Rattle.run_report.specs.Refusals.{refusal_of}
 use Rattle.command_line.specs.declared.request.Request.{Request}
 use Rattle.command_line.specs.declared.request.Request.TheVariants as R
 use Rattle.command_line.specs.Request.{file_names}
@@ -23,14 +23,14 @@ use Rattle.spl_driver.proofs.Replaying.{one_replay, some_replay}
 -- ---- the outcome, question by question
 
 -- by what is found of the program
-abbrev pub IsFoundOutcome : Request → Told → Arrivals → Result CheckedGraph ProgramRefusal → RequestOutcome → Type 0
-IsFoundOutcome request t arrivals (Err refusal) r = r ≡ Refused (refusal_of refusal)
+abbrev pub IsFoundOutcome : Request → Told → Arrivals → Result CheckedGraph Refusal → RequestOutcome → Type 0
+IsFoundOutcome request t arrivals (Err refusal) r = r ≡ Refused refusal
 IsFoundOutcome request t arrivals (Ok c) r = IsAcceptedOutcome request c arrivals t r
 
 -- by whether its file has a fault
 abbrev OutcomeByFault : Bool → Request → List ℕ → List ℕ → Told → Arrivals → RequestOutcome → Type 0
 OutcomeByFault true request program bytes t arrivals r = r ≡ Unreadable program
-OutcomeByFault false request program bytes t arrivals r = (found : Result CheckedGraph ProgramRefusal) × IsAccepted bytes (file_names request) found × IsFoundOutcome request t arrivals found r
+OutcomeByFault false request program bytes t arrivals r = (found : Result CheckedGraph Refusal) × IsAccepted bytes (file_names request) found × IsFoundOutcome request t arrivals found r
 
 -- by the program's file
 abbrev OutcomeByFile : Option (List ℕ) → Request → Told → Arrivals → RequestOutcome → Type 0
@@ -51,7 +51,7 @@ at_program : (t : Told) (arrivals : Arrivals) (request : Request) (program : Lis
 at_program t arrivals request program r built of h =
     subst (λ (b : Bool). OutcomeByWords b request t arrivals r) (sym built) (subst (λ (p : Option (List ℕ)). OutcomeByFile p request t arrivals r) (sym of) h)
 
-at_found : (t : Told) (arrivals : Arrivals) (request : Request) (program : List ℕ) (found : Result CheckedGraph ProgramRefusal) (r : RequestOutcome) → is_built request ≡ true → program_of request ≡ Some program
+at_found : (t : Told) (arrivals : Arrivals) (request : Request) (program : List ℕ) (found : Result CheckedGraph Refusal) (r : RequestOutcome) → is_built request ≡ true → program_of request ≡ Some program
     → IsFound t program (file_names request) found → IsFoundOutcome request t arrivals found r → OutcomeBy (Some request) t arrivals r
 at_found t arrivals request program found r built of h is =
     at_program t arrivals request program r built of
@@ -63,7 +63,7 @@ by_questions t arrivals request r (not_built asked other) = subst (λ (b : Bool)
 by_questions t arrivals request r (unreadable asked program built of fault) =
     at_program t arrivals asked program (Unreadable program) built of
     (subst (λ (b : Bool). OutcomeByFault b asked program (t.script program).bytes t arrivals (Unreadable program)) (sym fault) refl)
-by_questions t arrivals request r (refused asked program refusal built of found) = at_found t arrivals asked program (Err refusal) (Refused (refusal_of refusal)) built of found refl
+by_questions t arrivals request r (refused asked program refusal built of found) = at_found t arrivals asked program (Err refusal) (Refused refusal) built of found refl
 by_questions t arrivals request r (checks program c found) = at_found t arrivals (R.Check program) program (Ok c) (Reports OfSize c) refl refl found refl
 by_questions t arrivals request r (plans program c found) = at_found t arrivals (R.Plan program) program (Ok c) (Reports OfPlan c) refl refl found refl
 by_questions t arrivals request r (runs program options c plain found) = at_found t arrivals (R.Run program options) program (Ok c) (run_outcome c t arrivals) plain refl found refl
@@ -89,7 +89,7 @@ outcome_accepted t arrivals (R.Simulate p width schedule steps) program c r buil
 outcome_accepted t arrivals (R.Make name rows start) program c r built of found is = cc
 
 -- the outcome by what is found of the program
-pub outcome_found : (t : Told) (arrivals : Arrivals) (request : Request) (program : List ℕ) (found : Result CheckedGraph ProgramRefusal) (r : RequestOutcome) → is_built request ≡ true → program_of request ≡ Some program
+pub outcome_found : (t : Told) (arrivals : Arrivals) (request : Request) (program : List ℕ) (found : Result CheckedGraph Refusal) (r : RequestOutcome) → is_built request ≡ true → program_of request ≡ Some program
     → IsFound t program (file_names request) found → IsFoundOutcome request t arrivals found r → IsOutcome t arrivals (Some request) r
 outcome_found t arrivals request program (Err refusal) r built of found is = subst (IsOutcome t arrivals (Some request)) (sym is) (refused request program refusal built of found)
 outcome_found t arrivals request program (Ok c) r built of found is = outcome_accepted t arrivals request program c r built of found is
@@ -137,7 +137,7 @@ one_accepted_outcome law (R.Replay p file) c arrivals t r s k e d = one_replay l
 one_accepted_outcome law (R.Simulate p width schedule steps) c arrivals t r s k e d = e ∙ sym d
 one_accepted_outcome law (R.Make name rows start) c arrivals t r s k e d = e ∙ sym d
 
-one_found : Laws → (request : Request) (bytes : List ℕ) (t : Told) (arrivals : Arrivals) (found : Result CheckedGraph ProgramRefusal) (r s : RequestOutcome) → IsAccepted bytes (file_names request) found
+one_found : Laws → (request : Request) (bytes : List ℕ) (t : Told) (arrivals : Arrivals) (found : Result CheckedGraph Refusal) (r s : RequestOutcome) → IsAccepted bytes (file_names request) found
     → IsFoundOutcome request t arrivals found r → IsFoundOutcome request t arrivals found s → r ≡ s
 one_found laws request bytes t arrivals (Err refusal) r s is e d = e ∙ sym d
 one_found laws request bytes t arrivals (Ok c) r s is e d = one_accepted_outcome laws.record_one request c arrivals t r s (laws.kept bytes (file_names request) c is) e d
@@ -147,7 +147,7 @@ one_by_fault : Laws → (b : Bool) (request : Request) (program bytes : List ℕ
 one_by_fault laws true request program bytes t arrivals r s e d = e ∙ sym d
 one_by_fault laws false request program bytes t arrivals r s (x, is, e) (y, has, d) =
     one_found laws request bytes t arrivals x r s is e
-    (subst (λ (found : Result CheckedGraph ProgramRefusal). IsFoundOutcome request t arrivals found s) (laws.one bytes (file_names request) y x has is) d)
+    (subst (λ (found : Result CheckedGraph Refusal). IsFoundOutcome request t arrivals found s) (laws.one bytes (file_names request) y x has is) d)
 
 one_by_file : Laws → (program : Option (List ℕ)) (request : Request) (t : Told) (arrivals : Arrivals) (r s : RequestOutcome)
     → OutcomeByFile program request t arrivals r → OutcomeByFile program request t arrivals s → r ≡ s
@@ -174,7 +174,7 @@ back_found one t arrivals request program c r built of found is =
     let by = subst (λ (b : Bool). OutcomeByWords b request t arrivals r) built (by_questions t arrivals (Some request) r is) in
     let at = subst (λ (o : Option (List ℕ)). OutcomeByFile o request t arrivals r) of by in
     let x = subst (λ (b : Bool). OutcomeByFault b request program (t.script program).bytes t arrivals r) found.read at in
-    subst (λ (f : Result CheckedGraph ProgramRefusal). IsFoundOutcome request t arrivals f r) (one (t.script program).bytes (file_names request) x.0 (Ok c) x.1 found.accepted) x.2
+    subst (λ (f : Result CheckedGraph Refusal). IsFoundOutcome request t arrivals f r) (one (t.script program).bytes (file_names request) x.0 (Ok c) x.1 found.accepted) x.2
 
 -- ---- some outcome
 
@@ -187,9 +187,9 @@ module _ (some : SomeAcceptedLaw) (kept : KeptLaw) (read : SomeReadLaw) where
   some_accepted_outcome (R.Simulate p width schedule steps) c arrivals t k = (NotBuilt, refl)
   some_accepted_outcome (R.Make name rows start) c arrivals t k = (NotBuilt, refl)
 
-  some_found : (request : Request) (bytes : List ℕ) (t : Told) (arrivals : Arrivals) (found : Result CheckedGraph ProgramRefusal) → IsAccepted bytes (file_names request) found
+  some_found : (request : Request) (bytes : List ℕ) (t : Told) (arrivals : Arrivals) (found : Result CheckedGraph Refusal) → IsAccepted bytes (file_names request) found
       → (r : RequestOutcome) × IsFoundOutcome request t arrivals found r
-  some_found request bytes t arrivals (Err refusal) is = (Refused (refusal_of refusal), refl)
+  some_found request bytes t arrivals (Err refusal) is = (Refused refusal, refl)
   some_found request bytes t arrivals (Ok c) is = some_accepted_outcome request c arrivals t (kept bytes (file_names request) c is)
 
   some_by_fault : (b : Bool) (request : Request) (program bytes : List ℕ) (t : Told) (arrivals : Arrivals) → (r : RequestOutcome) × OutcomeByFault b request program bytes t arrivals r
@@ -252,7 +252,7 @@ unread_at t arrivals request r file (unreadable asked program built of fault) e 
     let is : Unreadable program ≡ Unreadable file = e in
     let same : program ≡ file = cc in
     inl (subst (ProgramUnread t (Some asked)) same (record { asked = asked; is = refl; built = built; of = of; fault = fault }))
-unread_at t arrivals request r file (refused asked program refusal built of found) e = absurd (let bad : Refused (refusal_of refusal) ≡ Unreadable file = e in cc)
+unread_at t arrivals request r file (refused asked program refusal built of found) e = absurd (let bad : Refused refusal ≡ Unreadable file = e in cc)
 unread_at t arrivals request r file (checks program c found) e = absurd (let bad : Reports OfSize c ≡ Unreadable file = e in cc)
 unread_at t arrivals request r file (plans program c found) e = absurd (let bad : Reports OfPlan c ≡ Unreadable file = e in cc)
 unread_at t arrivals request r file (runs program options c plain found) e = absurd (run_not_unread c t arrivals file e)
@@ -267,7 +267,7 @@ unread_by t arrivals request file is = unread_at t arrivals request (Unreadable 
 
 abbrev PartsByFault : Bool → Request → List ℕ → List CheckedClauses → Type 0
 PartsByFault true request bytes parts = parts ≡ []
-PartsByFault false request bytes parts = (found : Result CheckedGraph ProgramRefusal) × IsAccepted bytes (file_names request) found × (parts ≡ parts_of found)
+PartsByFault false request bytes parts = (found : Result CheckedGraph Refusal) × IsAccepted bytes (file_names request) found × (parts ≡ parts_of found)
 
 abbrev PartsByFile : Option (List ℕ) → Request → Told → List CheckedClauses → Type 0
 PartsByFile None request t parts = parts ≡ []

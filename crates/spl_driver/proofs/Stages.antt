@@ -21,7 +21,7 @@ use Rattle.language_model.specs.declared.answer.TypeAnswer.{TypeAnswer}
 use Rattle.language_model.specs.declared.answer.TypeAnswer.TheVariants as T
 use Rattle.language_model.specs.Finds.{Finds}
 use Rattle.language_model.specs.declared.scope.CheckRefusal.{CheckRefusal}
-use Rattle.language_model.specs.Accepted.{Lexical, Unexpected, TooDeep, Expansion, Check, IsAccepted, no_tokens, too_deep, unexpected, no_graph, checks}
+use Rattle.language_model.specs.Accepted.{IsAccepted, no_tokens, too_deep, unexpected, no_graph, checks}
 use Rattle.language_model.proofs.parts.Accepted.{refused_check}
 use Rattle.language_model.specs.CheckedGraph.{CheckedGraph}
 use Rattle.language_model.specs.Checking.{checked}
@@ -44,7 +44,7 @@ same_answer bytes names (Err a) answer is h = subst (λ x. IsCompiled bytes name
 
 module _ (law : LexedLaw) (bytes : List ℕ) (names : List (List ℕ)) where
   by_lexer : (answer : LexAnswer) → Refuses answer (tokens bytes) → IsCompiled bytes names (Err (lexing_answer answer))
-  by_lexer (L.Refused error at) is = (Lexical error at, no_tokens error at ((law bytes (Err (error, at))).1 is), refl)
+  by_lexer (L.Refused error at) is = no_tokens error at ((law bytes (Err (error, at))).1 is)
   by_lexer L.Memory is = tt
 
   pub lexed : (r : Answered) (answer : LexAnswer) → Refuses answer (tokens bytes) → Is r (lexing_answer answer) → IsCompiled bytes names r
@@ -55,8 +55,8 @@ module _ (law : LexedLaw) (bytes : List ℕ) (names : List (List ℕ)) where
     has = (law bytes (Ok ts)).1 are
 
     by_parser : (answer : SyntaxAnswer) → ParsesUnit ts (Err answer) → IsCompiled bytes names (Err (parsing_answer answer))
-    by_parser (S.Unexpected at) is = (Unexpected at, unexpected ts at has is, refl)
-    by_parser (S.TooDeep at) is = (TooDeep at, too_deep ts at has is, refl)
+    by_parser (S.Unexpected at) is = unexpected ts at has is
+    by_parser (S.TooDeep at) is = too_deep ts at has is
     by_parser S.Memory is = tt
 
     pub parsed : (r : Answered) (answer : SyntaxAnswer) → ParsesUnit ts (Err answer) → Is r (parsing_answer answer) → IsCompiled bytes names r
@@ -64,7 +64,7 @@ module _ (law : LexedLaw) (bytes : List ℕ) (names : List (List ℕ)) where
 
     module _ (unit : List Definition) (spells : IsUnit ts unit) where
       by_expansion : (answer : ExpandAnswer) → Expands unit names (Err answer) → IsCompiled bytes names (Err (expanding_answer answer))
-      by_expansion (X.Refused refusal) flat = (Expansion refusal, no_graph ts unit refusal has spells flat, refl)
+      by_expansion (X.Refused refusal) flat = no_graph ts unit refusal has spells flat
       by_expansion X.Memory flat = tt
 
       pub expanded : (r : Answered) (answer : ExpandAnswer) → Expands unit names (Err answer) → Is r (expanding_answer answer) → IsCompiled bytes names r
@@ -76,7 +76,7 @@ module _ (law : LexedLaw) (bytes : List ℕ) (names : List (List ℕ)) where
         comes_to found is = subst (λ x. IsAccepted bytes names (refused_check x)) is (checks ts unit g has spells flat)
 
         by_check : (answer : TypeAnswer) → Finds (checked unit g) (Err answer) → IsCompiled bytes names (Err (checking_answer answer))
-        by_check (T.Refused refusal) is = (Check refusal, comes_to (Err refusal) is, refl)
+        by_check (T.Refused refusal) is = comes_to (Err refusal) is
         by_check T.Memory is = tt
 
         pub refused : (r : Answered) (answer : TypeAnswer) → Finds (checked unit g) (Err answer) → Is r (checking_answer answer) → IsCompiled bytes names r

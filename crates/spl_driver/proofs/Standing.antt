@@ -9,11 +9,11 @@ use Rattle.language_model.specs.declared.checked.CheckedClauses.{CheckedClauses}
 use Rattle.stream_model.specs.declared.record.Arrivals.{Arrivals}
 use Rattle.stream_model.specs.CheckedMeaning.{graph_of}
 use Rattle.stream_model.specs.Meaning.{Graph, Meaning}
-use Rattle.language_model.specs.Accepted.{ProgramRefusal, IsAccepted}
+use Rattle.language_model.specs.declared.refusal.Refusal.{Refusal}
+use Rattle.language_model.specs.Accepted.{IsAccepted}
 use Rattle.language_model.specs.CheckedGraph.{CheckedGraph}
 use Rattle.run_report.specs.declared.cause.Cause.{Cause}
 use Rattle.run_report.specs.declared.cause.Cause.TheVariants as C
-use Rattle.run_report.specs.declared.refusal.Refusal.{Refusal}
 use Rattle.command_line.specs.declared.request.Request.{Request}
 use Rattle.command_line.specs.declared.request.Request.TheVariants as R
 use Rattle.command_line.specs.Request.{file_names}
@@ -306,12 +306,12 @@ not_built_answer told request ended counts no_part is =
 -- ---- answers by the program
 
 -- the outcome of the request is that of its program
-outcome_of : (t : Told) (request : Request) (program : List ℕ) (arrivals : Arrivals) (found : Result CheckedGraph ProgramRefusal) (r : RequestOutcome) → is_built request ≡ true → program_of request ≡ Some program
+outcome_of : (t : Told) (request : Request) (program : List ℕ) (arrivals : Arrivals) (found : Result CheckedGraph Refusal) (r : RequestOutcome) → is_built request ≡ true → program_of request ≡ Some program
     → has_fault (t.script program) ≡ false → IsAccepted (t.script program).bytes (file_names request) found → IsFoundOutcome request t arrivals found r → IsOutcome t arrivals (Some request) r
 outcome_of t request program arrivals found r built of quiet accepted is =
     outcome_found t arrivals request program found r built of (record { read = quiet; accepted = accepted }) is
 
-parts_in : (t : Told) (request : Request) (program : List ℕ) (found : Result CheckedGraph ProgramRefusal) → program_of request ≡ Some program → has_fault (t.script program) ≡ false
+parts_in : (t : Told) (request : Request) (program : List ℕ) (found : Result CheckedGraph Refusal) → program_of request ≡ Some program → has_fault (t.script program) ≡ false
     → IsAccepted (t.script program).bytes (file_names request) found → ArePartsIn t (Some request) (Rattle.spl_driver.specs.Files.parts_of found)
 parts_in t request program found of quiet accepted = of_program request program found of (record { read = quiet; accepted = accepted })
 
@@ -344,7 +344,7 @@ refused_answer told now request program refusal ended counts later built of is m
     go : (t : Told) → told ≡ Some t → IsOutcome t ended.arrivals (Some request) (Refused refusal)
     go t e =
         let at = subst (λ (o : Option Told). IfSome o (λ t. CompiledAt (P.Refused refusal) (t.script program) (file_names request))) e made in
-        outcome_of t request program ended.arrivals (Err at.1.0) (Refused refusal) built of at.0 at.1.1 (ap (λ (r : Refusal). Refused r) at.1.2)
+        outcome_of t request program ended.arrivals (Err refusal) (Refused refusal) built of at.0 at.1 refl
 
 -- the program is read as a whole
 whole_program : (request : Request) (program : List ℕ) → is_built request ≡ true → program_of request ≡ Some program → is_named (whole_files (Some request)) program ≡ true

@@ -20,7 +20,7 @@ use Rattle.stream_model.specs.Stages.{out}
 use Rattle.list_engine.specs.Runs.{AreWhole}
 use Rattle.run_report.specs.declared.cause.Cause.{Cause}
 use Rattle.run_report.specs.declared.cause.Cause.TheVariants as C
-use Rattle.run_report.specs.declared.refusal.Refusal.{Refusal}
+use Rattle.language_model.specs.declared.refusal.Refusal.{Refusal}
 use Rattle.command_line.specs.declared.request.Request.{Request}
 use Rattle.command_line.specs.declared.request.Request.TheVariants as R
 use Rattle.check_laws.specs.Files.{is_named, sink_file, sink_files, source_file}

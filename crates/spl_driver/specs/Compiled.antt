@@ -1,13 +1,13 @@
 -- What compiling a program answers.
 use Rattle.std.specs.Prelude.{◌≡◌, ℕ, List, Result, Ok, Err}
-use Rattle.language_model.specs.Accepted.{ProgramRefusal, IsAccepted}
+use Rattle.language_model.specs.declared.refusal.Refusal.{Refusal}
+use Rattle.language_model.specs.Accepted.{IsAccepted}
 use Rattle.language_model.specs.CheckedGraph.{CheckedGraph}
-use Rattle.run_report.specs.Refusals.{refusal_of}
 use Rattle.spl_driver.specs.declared.compile_answer.CompileAnswer.{CompileAnswer}
 use Rattle.spl_driver.specs.declared.compile_answer.CompileAnswer.TheVariants as A
 
--- the checked graph or the refusal that is the result of the program; nothing is said where memory ran out
+-- the checked graph or the refusal that is the result of the program; nothing is said of lack of memory
 abbrev pub IsCompiled : List ℕ → List (List ℕ) → Result CheckedGraph CompileAnswer → Type 0
 IsCompiled bytes names (Ok c) = IsAccepted bytes names (Ok c)
-IsCompiled bytes names (Err (A.Refused refusal)) = (p : ProgramRefusal) × IsAccepted bytes names (Err p) × (refusal ≡ refusal_of p)
+IsCompiled bytes names (Err (A.Refused refusal)) = IsAccepted bytes names (Err refusal)
 IsCompiled bytes names (Err A.Memory) = Unit {0}

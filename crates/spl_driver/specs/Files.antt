@@ -4,7 +4,7 @@ use Rattle.std.specs.Result.{result_ok}
 use Rattle.std.specs.Option.{option_map_or, option_to_list}
 use Rattle.std.specs.Str.{bytes_eq}
 use Rattle.language_model.specs.declared.checked.CheckedClauses.{CheckedClauses}
-use Rattle.language_model.specs.Accepted.{ProgramRefusal}
+use Rattle.language_model.specs.declared.refusal.Refusal.{Refusal}
 use Rattle.language_model.specs.CheckedGraph.{CheckedGraph}
 use Rattle.command_line.specs.declared.request.Request.{Request}
 use Rattle.command_line.specs.declared.request.Request.TheVariants as R
@@ -16,7 +16,7 @@ abbrev pub program_of : Request → Option (List ℕ)
 program_of request = slice_get (file_names request) 0
 
 -- the operators of an accepted program; those of another one are none
-abbrev pub parts_of : Result CheckedGraph ProgramRefusal → List CheckedClauses
+abbrev pub parts_of : Result CheckedGraph Refusal → List CheckedClauses
 parts_of found = option_map_or (λ c. c.parts) (result_ok found) []
 
 -- the files of the sources, where they are run, which are read row by row

@@ -5,7 +5,8 @@ use Rattle.feed_pour.specs.Contents.{Told}
 use Rattle.language_model.specs.declared.checked.CheckedClauses.{CheckedClauses}
 use Rattle.stream_model.specs.declared.record.ArrivalList.{ArrivalList}
 use Rattle.stream_model.specs.declared.record.Arrivals.{Arrivals}
-use Rattle.language_model.specs.Accepted.{ProgramRefusal, IsAccepted}
+use Rattle.language_model.specs.declared.refusal.Refusal.{Refusal}
+use Rattle.language_model.specs.Accepted.{IsAccepted}
 use Rattle.language_model.specs.CheckedGraph.{CheckedGraph}
 use Rattle.stream_model.specs.Arrivals.{entries_in}
 use Rattle.stream_model.specs.CheckedMeaning.{graph_of}
@@ -14,8 +15,6 @@ use Rattle.arrival_format.specs.ArrivalTexts.{Spells}
 use Rattle.list_engine.specs.RunOrders.{IsFirstNotWhole}
 use Rattle.list_engine.specs.Runs.{AreWhole}
 use Rattle.source_rows.specs.Sources.{is_failed, rows_told}
-use Rattle.run_report.specs.declared.refusal.Refusal.{Refusal}
-use Rattle.run_report.specs.Refusals.{refusal_of}
 use Rattle.command_line.specs.declared.request.Request.{Request}
 use Rattle.command_line.specs.declared.request.Request.TheVariants as R
 use Rattle.command_line.specs.declared.request.RunOptions.{RunOptions}
@@ -52,11 +51,11 @@ pub data RequestOutcome : Type 0 where
 abbrev pub fails_within : ℕ → Script → Bool
 fails_within most script = nat_le (length script.bytes) most && is_failed script.ending
 
--- that of a program's file, which may have 1,048,576
+-- a read of the program's file fails within its 1,048,576 bytes
 abbrev pub has_fault : Script → Bool
 has_fault script = fails_within 1048576 script
 
--- and that of the file of an arrival record
+-- a read of the file of an arrival record fails within 2^32
 abbrev pub has_record_fault : Script → Bool
 has_record_fault script = fails_within (2 ^ 32) script
 
@@ -65,20 +64,20 @@ abbrev pub run_outcome : CheckedGraph → Told → Arrivals → RequestOutcome
 run_outcome c told arrivals = Runs c (graph_of c) (meant (graph_of c) told arrivals.lists)
 
 -- the program in this file can be read, and is accepted with this graph or refused
-pub record IsFound (told : Told) (program : List ℕ) (names : List (List ℕ)) (found : Result CheckedGraph ProgramRefusal) : Type 0 where
+pub record IsFound (told : Told) (program : List ℕ) (names : List (List ℕ)) (found : Result CheckedGraph Refusal) : Type 0 where
   pub read : has_fault (told.script program) ≡ false
   pub accepted : IsAccepted (told.script program).bytes names found
 
--- the request has a program, and one of some bytes is accepted with this graph
+-- there is a request, and some bytes are accepted with this graph where no sink may have one of its files
 abbrev pub IsProgramOf : Option Request → CheckedGraph → Type 0
 IsProgramOf request c = IsSomeAnd request (λ r. (bytes : List ℕ) × IsAccepted bytes (file_names r) (Ok c))
 
--- one of some bytes has this refusal
+-- some bytes have this refusal where no sink may have one of the request's files
 abbrev pub IsSomeRefusal : Request → Refusal → Type 0
-IsSomeRefusal request refusal = (bytes : List ℕ) × (p : ProgramRefusal) × IsAccepted bytes (file_names request) (Err p) × (refusal ≡ refusal_of p)
+IsSomeRefusal request refusal = (bytes : List ℕ) × IsAccepted bytes (file_names request) (Err refusal)
 
 -- The result of a run of an accepted program under a record: the record isn't whole for an operator, of which this is the
--- first in topological order; or it is.
+-- first in topological order; or it is whole for all, and the run has its meaning.
 pub data IsUnder (told : Told) (c : CheckedGraph) (arrivals : Arrivals) : RequestOutcome → Type 0 where
   partial : (n : ℕ) → IsFirstNotWhole (graph_of c) (meant (graph_of c) told arrivals.lists) (entries_in arrivals.lists) n
       → IsUnder told c arrivals (BadArrivals c (Some n))
@@ -98,8 +97,8 @@ pub data IsOutcome (told : Told) (arrivals : Arrivals) : Option Request → Requ
   not_built : (request : Request) → is_built request ≡ false → IsOutcome told arrivals (Some request) NotBuilt
   unreadable : (request : Request) (program : List ℕ) → is_built request ≡ true → program_of request ≡ Some program → has_fault (told.script program) ≡ true
       → IsOutcome told arrivals (Some request) (Unreadable program)
-  refused : (request : Request) (program : List ℕ) (refusal : ProgramRefusal) → is_built request ≡ true → program_of request ≡ Some program
-      → IsFound told program (file_names request) (Err refusal) → IsOutcome told arrivals (Some request) (Refused (refusal_of refusal))
+  refused : (request : Request) (program : List ℕ) (refusal : Refusal) → is_built request ≡ true → program_of request ≡ Some program
+      → IsFound told program (file_names request) (Err refusal) → IsOutcome told arrivals (Some request) (Refused refusal)
   checks : (program : List ℕ) (c : CheckedGraph) → IsFound told program (program ∷ []) (Ok c)
       → IsOutcome told arrivals (Some (R.Check program)) (Reports OfSize c)
   plans : (program : List ℕ) (c : CheckedGraph) → IsFound told program (program ∷ []) (Ok c)
@@ -115,5 +114,5 @@ pub data IsOutcome (told : Told) (arrivals : Arrivals) : Option Request → Requ
 pub data ArePartsIn (told : Told) : Option Request → List CheckedClauses → Type 0 where
   of_no_program : (request : Option Request) → option_and_then program_of request ≡ None → ArePartsIn told request []
   of_unreadable : (request : Request) (program : List ℕ) → program_of request ≡ Some program → has_fault (told.script program) ≡ true → ArePartsIn told (Some request) []
-  of_program : (request : Request) (program : List ℕ) (found : Result CheckedGraph ProgramRefusal) → program_of request ≡ Some program
+  of_program : (request : Request) (program : List ℕ) (found : Result CheckedGraph Refusal) → program_of request ≡ Some program
       → IsFound told program (file_names request) found → ArePartsIn told (Some request) (parts_of found)

@@ -1,7 +1,6 @@
 //! The program of a request, read and compiled.
 ghost use Rattle.std.specs.Prelude.{◌≡◌, ◌<◌, ◌-◌, ◌^◌, IfSome};
-ghost use Rattle.run_report.specs.Refusals.{refusal_of};
-ghost use Rattle.language_model.specs.Accepted.{Lexical};
+ghost use Rattle.language_model.specs.Refusals.{refusal_by};
 ghost use Rattle.spl_tree.specs.declared.token.LexicalError.TheVariants.{TooLong};
 ghost use Rattle.feed_pour.specs.Contents.{WhereTold, TellsSame};
 ghost use Rattle.spl_driver.specs.steps.Steps.{CompileCounted, CompiledAt, HasOwnFiles, IsCompiledFrom, WholeFails};
@@ -29,7 +28,7 @@ pub enum Compiled {
 
 // The refusal of a program that is longer than programs may be.
 fn too_long() -> Refusal
-    ensures { result ≡ refusal_of (Lexical TooLong 1048576) }
+    ensures { result ≡ refusal_by (Code.Lexical TooLong) 1048576 }
 {
     Refusal {
         code: Code::Lexical(LexicalError::TooLong),

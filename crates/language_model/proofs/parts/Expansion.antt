@@ -4,7 +4,8 @@ use Rattle.std.specs.Option.{option_map_or}
 use Rattle.spl_tree.specs.declared.expression.Placed.{Placed}
 use Rattle.spl_tree.specs.declared.graph.Site.{Site}
 use Rattle.spl_tree.specs.declared.unit.OutputStream.{OutputStream}
-use Rattle.language_model.specs.declared.expansion.ExpansionRefusal.TheVariants as R
+use Rattle.language_model.specs.declared.expansion.ExpansionError.TheVariants as E
+use Rattle.language_model.specs.Refusals.{named_refusal}
 use Rattle.language_model.specs.declared.expansion.Operation.{Operation}
 use Rattle.language_model.specs.declared.expansion.Source.{Source}
 use Rattle.language_model.specs.Declarations.{first_of}
@@ -27,4 +28,4 @@ with_operation op made = record { ops = made.ops ++ op ∷ []; expansions = made
 
 -- what isn't declared is refused first
 abbrev pub if_declared : Option (Placed (List ℕ)) → Expanded Made → Expanded Made
-if_declared undeclared found = option_map_or (λ n. Err (R.Unknown n)) undeclared found
+if_declared undeclared found = option_map_or (λ n. Err (named_refusal E.Unknown n)) undeclared found

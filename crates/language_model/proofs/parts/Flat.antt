@@ -7,7 +7,8 @@ use Rattle.spl_tree.specs.declared.graph.Graph.{Graph}
 use Rattle.spl_tree.specs.declared.graph.Op.{Op}
 use Rattle.spl_tree.specs.declared.unit.Definition.{Definition}
 use Rattle.spl_tree.specs.Trees.{placed}
-use Rattle.language_model.specs.declared.expansion.ExpansionRefusal.TheVariants as R
+use Rattle.language_model.specs.declared.expansion.ExpansionError.TheVariants as E
+use Rattle.language_model.specs.Refusals.{named_refusal}
 use Rattle.language_model.specs.Declarations.{repeated}
 use Rattle.language_model.specs.Expansion.{Made, Expanded}
 use Rattle.language_model.specs.Numbering.{ops_from, streams_from, expansions_from}
@@ -23,11 +24,11 @@ graph_of made topo =
 
 -- the first operator that can't be taken is refused
 abbrev pub if_all_taken : Made → List ℕ → Option ℕ → Expanded Graph
-if_all_taken made topo untaken = option_map_or (λ n. Err (R.Loop (label_at made n))) untaken (Ok (graph_of made topo))
+if_all_taken made topo untaken = option_map_or (λ n. Err (named_refusal E.Loop (label_at made n))) untaken (Ok (graph_of made topo))
 
 -- the files of sources and sinks that are in use already
 abbrev pub files_had : List Definition → List (List ℕ) → List Expansion → List Op → List OpFile
 files_had unit names expansions ops = repeated (is_had names) (flat_map (op_file unit expansions) ops)
 
 abbrev pub if_none_had : Graph → Option (Placed (List ℕ)) → Expanded Graph
-if_none_had g had = option_map_or (λ file. Err (R.SameFile file)) had (Ok g)
+if_none_had g had = option_map_or (λ file. Err (named_refusal E.SameFile file)) had (Ok g)

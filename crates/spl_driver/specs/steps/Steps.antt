@@ -11,7 +11,8 @@ use Rattle.language_model.specs.declared.checked.CheckedClauses.{CheckedClauses}
 use Rattle.language_model.specs.declared.checked.CheckedClauses.TheVariants as A
 use Rattle.stream_model.specs.declared.record.Arrivals.{Arrivals}
 use Rattle.stream_model.specs.declared.record.SinkCount.{SinkCount}
-use Rattle.language_model.specs.Accepted.{ProgramRefusal, IsAccepted}
+use Rattle.language_model.specs.declared.refusal.Refusal.{Refusal}
+use Rattle.language_model.specs.Accepted.{IsAccepted}
 use Rattle.language_model.specs.CheckedGraph.{CheckedGraph}
 use Rattle.stream_model.specs.Arrivals.{several}
 use Rattle.stream_model.specs.CheckedMeaning.{graph_of}
@@ -19,7 +20,6 @@ use Rattle.stream_model.specs.Ends.{run_fault}
 use Rattle.stream_model.specs.Meaning.{Graph, Meaning}
 use Rattle.run_report.specs.declared.cause.Cause.{Cause}
 use Rattle.run_report.specs.declared.cause.Cause.TheVariants as C
-use Rattle.run_report.specs.Refusals.{refusal_of}
 use Rattle.run_report.specs.Texts.{status_text}
 use Rattle.check_laws.specs.Files.{source_files, sink_files, is_named, OwnFiles}
 use Rattle.file_adapters.specs.declared.sinks.Sink.{Sink}
@@ -111,7 +111,7 @@ CompileCounted P.Memory program old new = NoCountChanged old new
 -- a checked graph is that of a program of some bytes, and so is a refusal
 abbrev pub IsCompiledFrom : Compiled → List (List ℕ) → Type 0
 IsCompiledFrom (P.Checked c) names = (bytes : List ℕ) × IsAccepted bytes names (Ok c)
-IsCompiledFrom (P.Refused refusal) names = (bytes : List ℕ) × (p : ProgramRefusal) × IsAccepted bytes names (Err p) × (refusal ≡ refusal_of p)
+IsCompiledFrom (P.Refused refusal) names = (bytes : List ℕ) × IsAccepted bytes names (Err refusal)
 IsCompiledFrom P.OpenFailed names = ⊤
 IsCompiledFrom P.ReadFailed names = ⊤
 IsCompiledFrom P.Memory names = ⊤
@@ -120,7 +120,7 @@ IsCompiledFrom P.Memory names = ⊤
 abbrev pub CompiledAt : Compiled → Script → List (List ℕ) → Type 0
 CompiledAt (P.Checked c) script names = (has_fault script ≡ false) × IsAccepted script.bytes names (Ok c)
 CompiledAt (P.Refused refusal) script names =
-    (has_fault script ≡ false) × ((p : ProgramRefusal) × IsAccepted script.bytes names (Err p) × (refusal ≡ refusal_of p))
+    (has_fault script ≡ false) × (IsAccepted script.bytes names (Err refusal))
 CompiledAt P.OpenFailed script names = ⊤
 CompiledAt P.ReadFailed script names = ⊤
 CompiledAt P.Memory script names = ⊤

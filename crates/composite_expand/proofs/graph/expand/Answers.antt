@@ -10,7 +10,8 @@ use Rattle.composite_expand.proofs.Comes.{main_starts, recursive, answered, refu
 use Rattle.composite_expand.proofs.graph.expand.Goals as goal
 
 pub returns-in-Some : goal.returns-in-Some
-returns-in-Some c = IsFlat.twice c.in-Some.name (sym c.in_ok-name.ensures ∙ c.in-Some.is)
+returns-in-Some c =
+    subst (λ a. Expands c.args.unit.now c.args.names.now (Err a)) (sym c.refused.ensures) (IsFlat.twice c.in-Some.name (sym c.in_ok-name.ensures ∙ c.in-Some.is))
 
 pub returns-in_default-main_of : goal.returns-in_default-main_of
 returns-in_default-main_of c =
@@ -18,9 +19,10 @@ returns-in_default-main_of c =
 
 pub returns-in-Some-2 : goal.returns-in-Some-2
 returns-in-Some-2 c =
-    recursive c.args.unit.now c.args.names.now c.in-Some-main_of.main c.in-Some-2.name (sym c.in_ok-name.ensures ∙ c.in_default.is)
+    subst (λ a. Expands c.args.unit.now c.args.names.now (Err a)) (sym c.refused-in-Some-2.ensures)
+    (recursive c.args.unit.now c.args.names.now c.in-Some-main_of.main c.in-Some-2.name (sym c.in_ok-name.ensures ∙ c.in_default.is)
     (ap main_of (sym c.in_ok-composites.ensures) ∙ sym c.main_of.ensures ∙ c.in-Some-main_of.is)
-    (subst (λ o. MatchOption o (IsNotRecursive c.args.unit.now) (IsRecursive c.args.unit.now)) c.in-Some-2.is c.in_ok-name-2.ensures)
+    (subst (λ o. MatchOption o (IsNotRecursive c.args.unit.now) (IsRecursive c.args.unit.now)) c.in-Some-2.is c.in_ok-name-2.ensures))
 
 pub expand_main-requires : goal.expand_main-requires
 expand_main-requires c =
