@@ -2,7 +2,7 @@
 ghost use Rattle.std.specs.Prelude.{map, IfOk};
 ghost use Rattle.file_adapters.specs.Sinks.{AreDistinct};
 
-use crate::shown::{add_faults, add_held, numbers};
+use crate::shown::{add_faults, add_held};
 use file_adapters::{Sink, Sunk, write_sinks};
 use memory_files::MemoryShelf;
 use spl_value::{Item, Items, NoMemory, Value, Values};
@@ -10,7 +10,7 @@ use std::alloc::{AllocError, Global};
 use test_texts::rows::{Answers, Untrue, expect};
 use test_texts::signs::{with_signs, without_signs};
 use test_texts::text::Text;
-use test_texts::words::{bytes, cut, number};
+use test_texts::words::{bytes, cut, number, numbers};
 
 // What becomes of sinks of two streams: `0 1` are the streams of the sinks `a` and `b`, `none` is no sinks, and
 // after ` | ` stands the call that fails, one of the shelf's, or a write to `a`. `row 1 x` is a stream with

@@ -7,7 +7,7 @@
 //! | `plain alone` | of a feed and a pour whose calls never fail: how much a read of two bytes gives, what comes after it, and what the pour takes of that |
 //! | `poured`, `refused` | what is poured on a writer that takes all, and what a pour answers on one that takes nothing |
 //! | `all`, `but 1 3` | who starts of the groups 0 to 3 |
-use crate::shown::{fives, numbers};
+use crate::shown::fives;
 use feed_pour::{
     AllStart, Failed, Feed, Gate, NotThese, OpenGate, Pour, PourAnswer, ReadAll, Starter,
     StdoutPour, read_all, write_all,
@@ -19,7 +19,7 @@ use std::io;
 use std::io::Write;
 use test_texts::rows::{Answers, Untrue, expect};
 use test_texts::text::Text;
-use test_texts::words::{bytes, cut, number};
+use test_texts::words::{bytes, cut, number, numbers};
 
 // The bytes that reads of 8,192 give, and whether a read failed.
 fn drained(feed: &mut MemoryFeed) -> (usize, bool) {

@@ -1,4 +1,4 @@
-//! What the program reads from and writes to: rows, files, devices and the lines that it tells.
+//! What the program reads from and writes to: files, devices and the lines that it tells.
 #![tactic(auto)]
 
 #[cfg(test)]
@@ -13,5 +13,3 @@ mod reports;
 mod shelves;
 #[cfg(test)]
 mod shown;
-#[cfg(test)]
-mod source_rows;

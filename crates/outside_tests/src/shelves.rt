@@ -8,7 +8,7 @@
 //! | `write a␊ b␊` | what each write answers, and what finishes the file |
 //! | `holds` | what the file holds |
 //! | `faults` | those of opening, creating, reading and writing |
-use crate::shown::{add_faults, add_held, fives, numbers};
+use crate::shown::{add_faults, add_held, fives};
 use feed_pour::{Fetched, Opened, Pour, Shelf, fetch, write_all};
 use memory_files::{MemoryShelf, PlainShelf};
 use spl_value::{Bytes, Name, NoMemory};
@@ -16,7 +16,7 @@ use std::alloc::{AllocError, Global};
 use test_texts::rows::{Answers, Untrue, expect};
 use test_texts::signs::{with_signs, without_signs};
 use test_texts::text::Text;
-use test_texts::words::{bytes, cut, number};
+use test_texts::words::{bytes, cut, number, numbers};
 
 // Steps on a shelf some of whose calls fail.
 struct Memory;

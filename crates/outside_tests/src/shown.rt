@@ -3,22 +3,12 @@ use feed_pour::Tallies;
 use spl_value::{Bytes, Items};
 use std::alloc::{AllocError, Global};
 use test_texts::text::Text;
-use test_texts::words::number;
 
 /// `size` bytes.
 pub(crate) fn fives(alloc: Global, size: u32) -> Result<Bytes, AllocError> {
     let mut fives = Vec::new(alloc);
     fives.resize(size as usize, 5u8)?;
     Ok(Items::from_vec(fives))
-}
-
-/// The numbers of a text, with a blank between two.
-pub(crate) fn numbers(alloc: Global, text: &str) -> Result<Items<u64>, AllocError> {
-    let mut numbers = Items::new(alloc);
-    for piece in text.split(' ') {
-        numbers.push(u64::from(number(piece)))?;
-    }
-    Ok(numbers)
 }
 
 /// Adds what a file holds: `-` where there is none.

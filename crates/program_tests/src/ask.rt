@@ -2,14 +2,14 @@
 //!
 //! | Part of a row | What it says |
 //! |---|---|
-//! | the first one | the file `p.spl`, as `programs` says; `@none` where it isn't there |
+//! | the first one | the file `p.spl`, as `programs` of `program_texts` says; `@none` where it isn't there |
 //! | `t.csv: 5␊` | a file beside it, and what it holds; `@times 9 x y` is nine times `x`, and `y`; `«0 9 x»` in a file is nine times `x` too |
 //! | `fail read 2 t.csv` | a call that fails, by its number from 1: of the reads of a file; `write 2 o.csv` of the writes to one; `call 3,4` of the shelf's own calls, which open, create and finish; `line` is the line that is told |
 //! | `$ run p.spl` | the words, where others are asked than those of the table; they stand last |
-use crate::shelf::{File, files_of, out_of, shelf_of};
 use crate::shown::shown;
 use feed_pour::{AllStart, OpenGate};
 use memory_files::MemoryShelf;
+use program_texts::{File, files_of, out_of, shelf_of};
 use spl_driver::{Ended, spl};
 use spl_value::{Boxed, Bytes};
 use std::alloc::{AllocError, Global};

@@ -18,15 +18,11 @@ mod examples;
 #[cfg(test)]
 mod faults;
 #[cfg(test)]
-mod generated;
-#[cfg(test)]
 mod hostile;
 #[cfg(test)]
 mod operators;
 #[cfg(test)]
 mod plans;
-#[cfg(test)]
-mod programs;
 #[cfg(test)]
 mod recorded;
 #[cfg(test)]
@@ -39,8 +35,6 @@ mod rows;
 mod runs;
 #[cfg(test)]
 mod several;
-#[cfg(test)]
-mod shelf;
 #[cfg(test)]
 mod shown;
 #[cfg(test)]

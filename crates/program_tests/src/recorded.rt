@@ -1,7 +1,7 @@
 //! Runs that write the record of their arrivals.
 use crate::ask::{Seen, answered, ask, asked};
-use crate::shelf::{File, files_of};
 use crate::shown::{shown, shown_but};
+use program_texts::{File, files_of};
 use spl_value::{Boxed, Items};
 use std::alloc::{AllocError, Global};
 use std::sync::Wait;

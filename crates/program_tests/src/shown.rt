@@ -12,8 +12,8 @@
 //! | `; record 2 0 0 1` | the inputs of the events of an operator with several, by its number, or how many events, `of 1200 inputs` |
 //! | `; channels` | counts of channels |
 use crate::ask::Seen;
-use crate::shelf::File;
 use memory_files::MemoryShelf;
+use program_texts::File;
 use spl_driver::Ended;
 use std::alloc::{AllocError, Global};
 use test_texts::signs::with_signs;

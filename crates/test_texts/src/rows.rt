@@ -105,6 +105,14 @@ pub fn expect<A: Answers>(alloc: Global, answers: &A, tables: &[&str]) -> Result
     no_others(others)
 }
 
+/// The same of tables, each of which is asked of its own.
+pub fn expect_each<A: Answers>(alloc: Global, tables: &[(A, &str)]) -> Result<(), Untrue> {
+    for (answers, table) in tables {
+        expect(alloc, answers, &[*table])?;
+    }
+    Ok(())
+}
+
 /// The same of a table with pieces that stand there many times.
 pub fn expect_spread<A: Answers>(alloc: Global, answers: &A, table: &str) -> Result<(), Untrue> {
     let table = spread(alloc, table)?;

@@ -7,10 +7,15 @@ use std::alloc::{AllocError, Global};
 use test_texts::words::{bytes, cut};
 
 /// A file's name, and what it holds.
-#[derive(Drop)]
-pub(crate) struct File {
+pub struct File {
     pub name: Bytes,
     pub held: Bytes,
+}
+
+impl Drop for File {
+    fn drop(self) {
+        let File { name: _, held: _ } = self;
+    }
 }
 
 fn make_file(alloc: Global, name: &str, held: &str) -> Result<File, AllocError> {
@@ -41,11 +46,7 @@ fn add_program(alloc: Global, files: &mut Vec<File>, program: &str) -> Result<()
 }
 
 /// The program of a row, if it has one, and the files beside it.
-pub(crate) fn files_of(
-    alloc: Global,
-    program: &str,
-    beside: &str,
-) -> Result<Vec<File>, AllocError> {
+pub fn files_of(alloc: Global, program: &str, beside: &str) -> Result<Vec<File>, AllocError> {
     let mut files = Vec::new(alloc);
     add_program(alloc, &mut files, program)?;
     for part in beside.split(" | ") {
@@ -115,18 +116,14 @@ fn prepare(
 }
 
 /// A shelf with these files, on which the calls fail that are told beside them.
-pub(crate) fn shelf_of(
-    alloc: Global,
-    files: &[File],
-    beside: &str,
-) -> Result<MemoryShelf, AllocError> {
+pub fn shelf_of(alloc: Global, files: &[File], beside: &str) -> Result<MemoryShelf, AllocError> {
     let mut shelf = MemoryShelf::new(alloc);
     prepare(alloc, &mut shelf, files, beside)?;
     Ok(shelf)
 }
 
 /// What takes the line that is told. It takes none where `fail line` stands beside the program.
-pub(crate) fn out_of(alloc: Global, beside: &str) -> Result<MemoryPour, AllocError> {
+pub fn out_of(alloc: Global, beside: &str) -> Result<MemoryPour, AllocError> {
     let failing = if beside.contains("fail line") {
         numbers_of(alloc, "1")?
     } else {

@@ -1,6 +1,6 @@
 use Rattle.std.proofs.Common.{◌≡◌, false}
 use Rattle.row_reader.specs.Reading.{is_over, most_left}
-use Rattle.outside_tests.proofs.source_rows.copy_rows.Given as goal
+use Rattle.row_tests.proofs.source_rows.copy_rows.Given as goal
 
 abbrev pub invariant-rows : goal.invariant-rows
 invariant-rows g l = is_over l.rows ≡ false

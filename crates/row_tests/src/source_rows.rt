@@ -5,7 +5,6 @@ ghost use Rattle.language_model.specs.parts.Checking.{level_text_form};
 ghost use Rattle.spl_value.specs.declared.types.SplType.TheViews.{out-SplType};
 ghost use Rattle.row_reader.specs.Reading.{is_over};
 
-use crate::shown::numbers;
 use feed_pour::{Feed, Pour, PourAnswer};
 use memory_files::{MemoryFeed, MemoryPour};
 use row_reader::{Rows, read_rows};
@@ -18,7 +17,7 @@ use test_texts::rows::{Answers, Untrue, expect};
 use test_texts::signs::with_signs;
 use test_texts::spelled::spelled_out;
 use test_texts::text::Text;
-use test_texts::words::{bytes, cut, number};
+use test_texts::words::{bytes, cut, number, numbers};
 
 // The types of the columns, `s` for strict or `p` for permissive, the limit, the read that fails, and
 // the file.
