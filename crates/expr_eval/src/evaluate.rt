@@ -18,7 +18,7 @@ use crate::context::Context;
 use crate::run::run_function;
 use evaluation_laws::evaluation_law;
 use language_model::Env;
-use spl_tree::{BinaryCode, BuiltIn, Code, DEEPEST, Functions, Selector, Slot, UnaryCode};
+use spl_tree::{BinaryCode, BuiltIn, Code, Functions, MOST_EVALUATED, Selector, Slot, UnaryCode};
 use spl_value::{Evaluated, Items, Value, Values};
 use std::alloc::Global;
 use value_operations::{
@@ -30,7 +30,7 @@ use value_operations::{
 /// The value of a code in an environment, or its fault, with the turns that are left.
 ///
 /// Each call of a function takes a turn, and the fault `Turns` comes where none is left. `Memory` is
-/// also the answer to codes and statements that nest deeper than `DEEPEST`.
+/// also the answer to codes and statements that nest deeper than `MOST_EVALUATED`.
 pub fn eval(
     alloc: Global,
     functions: &Functions,
@@ -42,7 +42,7 @@ pub fn eval(
     ensures { Evaluates (value functions.now code.now (world_of env.now) turns.old) result turns.new }
 {
     let context = Context::new(alloc, functions, env, *turns);
-    evaluated(alloc, eval_at(&context, DEEPEST, code, turns))
+    evaluated(alloc, eval_at(&context, MOST_EVALUATED, code, turns))
 }
 
 /// The value of a code, where codes may nest `room` deep.

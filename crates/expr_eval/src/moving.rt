@@ -23,7 +23,7 @@ use crate::evaluate::own_value;
 use crate::tuple::tuple_into;
 use evaluation_laws::evaluation_law;
 use language_model::Env;
-use spl_tree::{Code, DEEPEST, Functions, Slot};
+use spl_tree::{Code, Functions, MOST_EVALUATED, Slot};
 use spl_value::{Value, Values};
 use std::alloc::Global;
 use std::mem;
@@ -85,7 +85,7 @@ fn fields_but_moved(
         if let Some(_) = moves[i] {
             continue;
         }
-        let value = own_value(&context, DEEPEST, &field.1, turns)?;
+        let value = own_value(&context, MOST_EVALUATED, &field.1, turns)?;
         values.set(field.0 as usize, value);
     }
     Ok(values)

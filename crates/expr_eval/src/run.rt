@@ -25,7 +25,7 @@ use crate::statements::{
 use crate::variables::change_with;
 use evaluation_laws::evaluation_law;
 use language_model::{Env, Flow, Outs};
-use spl_tree::{Body, Change, Code, DEEPEST, Functions, Place, Selector, Slot, Statement};
+use spl_tree::{Body, Change, Code, Functions, MOST_EVALUATED, Place, Selector, Slot, Statement};
 use spl_value::{FaultKind, Items, Value, Values};
 use std::alloc::Global;
 use value_operations::{Held, Stop, elements, enter};
@@ -43,7 +43,7 @@ pub enum Ran {
 /// has. `turns` are those that there are, and then those that are left.
 ///
 /// Each turn of a loop and each call of a function takes a turn, and the fault `Turns` comes where none
-/// is left. `Memory` is also the answer to codes and statements that nest deeper than `DEEPEST`.
+/// is left. `Memory` is also the answer to codes and statements that nest deeper than `MOST_EVALUATED`.
 ///
 /// After a fault, and after `Memory`, submits and turns are as before. There are as many variables as
 /// before, with the values that the part of the body that was done left in them. The inputs and the
@@ -73,7 +73,7 @@ pub fn run_body(
     let row = body.as_slice();
     let mut left = *turns;
     let mut outs = Outs::new(alloc);
-    let ran = ran_as(run_scoped(&program, DEEPEST, row, env, &mut left, &mut outs));
+    let ran = ran_as(run_scoped(&program, MOST_EVALUATED, row, env, &mut left, &mut outs));
     let Ran::Done = ran else {
         return ran;
     };

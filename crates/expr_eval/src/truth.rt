@@ -18,7 +18,7 @@ use crate::context::Context;
 use crate::evaluate::{eval_at, is_true};
 use evaluation_laws::evaluation_law;
 use language_model::Env;
-use spl_tree::{BinaryCode, Code, DEEPEST, Functions, Slot, UnaryCode};
+use spl_tree::{BinaryCode, Code, Functions, MOST_EVALUATED, Slot, UnaryCode};
 use spl_value::Value;
 use std::alloc::Global;
 use value_operations::{
@@ -39,7 +39,7 @@ pub fn holds(
     ensures { IsSo (truth (value functions.now code.now) (world_of env.now) turns.old) result turns.new }
 {
     let context = Context::new(alloc, functions, env, *turns);
-    truth(truth_at(&context, DEEPEST, code, turns))
+    truth(truth_at(&context, MOST_EVALUATED, code, turns))
 }
 
 /// Whether a condition holds, where codes may nest `room` deep.

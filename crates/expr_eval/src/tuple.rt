@@ -16,7 +16,7 @@ use crate::context::Context;
 use crate::evaluate::{eval_fields, own_value};
 use evaluation_laws::evaluation_law;
 use language_model::Env;
-use spl_tree::{Code, DEEPEST, Functions, Slot};
+use spl_tree::{Code, Functions, MOST_EVALUATED, Slot};
 use spl_value::Values;
 use std::alloc::Global;
 use value_operations::{Made, Stop, made, values_of_tuple};
@@ -50,7 +50,7 @@ fn tuple_at<'e>(
     ensures { Answers (followed (code_value (calls_of context.now.functions.now context.now.depth) code.now (world_of context.now.env.now) turns.old) (λ v turns. need (level_tuple (out-Value v)) (λ vs. Done vs turns))) result turns.new }
 {
     match code {
-        Code::Tuple(fields) => eval_fields(context, DEEPEST, list, fields.as_slice(), turns),
+        Code::Tuple(fields) => eval_fields(context, MOST_EVALUATED, list, fields.as_slice(), turns),
         _ => evaluated_tuple(context, code, turns),
     }
 }
@@ -66,5 +66,5 @@ fn evaluated_tuple<'e>(
     ensures { Answers (followed (code_value (calls_of context.now.functions.now context.now.depth) code.now (world_of context.now.env.now) turns.old) (λ v turns. need (level_tuple (out-Value v)) (λ vs. Done vs turns))) result turns.new }
 {
     evaluation_law();
-    values_of_tuple(own_value(context, DEEPEST, code, turns))
+    values_of_tuple(own_value(context, MOST_EVALUATED, code, turns))
 }

@@ -12,7 +12,7 @@ ghost use Rattle.expr_eval.specs.Running.{LeadsNext, state};
 ghost use Rattle.expr_eval.specs.steps.Keeping.{Keeps};
 
 use language_model::Env;
-use spl_tree::{Change, DEEPEST, Selector};
+use spl_tree::{Change, MOST_EVALUATED, Selector};
 use spl_value::{Items, Value};
 use std::alloc::Global;
 use value_operations::{Stop, change_at};
@@ -48,5 +48,5 @@ fn change_variable(
     ensures kept { Keeps env.old env.new }
 {
     let value = env.vars.item_mut(variable as usize);
-    change_at(alloc, DEEPEST, value, steps, change)
+    change_at(alloc, MOST_EVALUATED, value, steps, change)
 }

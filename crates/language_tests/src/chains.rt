@@ -1,11 +1,11 @@
 //! Calls inside calls.
-use spl_tree::DEEPEST;
+use spl_tree::MOST_EVALUATED;
 use std::alloc::Global;
 use test_texts::text::Text;
 
 /// How many functions a chain has: 750, one more than may call each other. A call takes two of how deep
 /// codes and statements may nest, itself and the `return` of its function, and the number at the end one.
-const COUNT: u32 = DEEPEST / 2;
+const COUNT: u32 = MOST_EVALUATED / 2;
 
 // Functions after the chain.
 const BEHIND: &str = r#"

@@ -19,7 +19,7 @@ pub use code::{
     BinaryCode, BuiltIn, CallName, Code, IntegerOperator, Marker, OrderOperator, Selector, Slot,
     UnaryCode,
 };
-pub use depth::{DEEPEST, MOST_HEIGHT, MOST_NESTED};
+pub use depth::{MOST_EVALUATED, MOST_HEIGHT, MOST_NESTED};
 pub use expression::{
     BinaryOperator, CastTarget, Entries, Expr, ExprKind, Exprs, Field, Fields, Placed, Prefix,
     PrefixOperator, Prefixes, Step, Steps,
