@@ -1,5 +1,0 @@
-use Rattle.language_tests.specs.Contexts.{Holds}
-use Rattle.language_tests.proofs.context.Context.add_all.Given as goal
-
-abbrev pub invariant-loop-one : goal.invariant-loop-one
-invariant-loop-one l = Holds l.self.scope l.self.env l.self.functions
