@@ -1,17 +1,19 @@
 //! Texts, read as expressions and as units.
-ghost use Rattle.std.specs.Prelude.{◌≤◌, length, IfOk};
+ghost use Rattle.std.specs.Prelude.{◌≡◌, ◌≤◌, flat_map, length, IfOk, Ok};
+ghost use Rattle.spl_tree.specs.Tokens.{tokens};
+ghost use Rattle.language_texts.specs.Readings.{IsExprOfBytes, IsUnitOfBytes, IsWhole};
 
 use crate::unanswered::Unanswered;
 use expr_parser::{ParsedExpr, SyntaxAnswer, parse_expr};
 use spl_lexer::lex;
 use spl_tree::{Definition, Expr, Stmt, Tokens, Unit};
 use std::alloc::Global;
-use test_texts::text::Text;
 use unit_parser::parse_unit;
 
 /// The tokens of a text.
 pub fn tokens_of(alloc: Global, text: &str) -> Result<Tokens, Unanswered>
-    ensures { IfOk result (λ tokens. length tokens.list ≤ 1048576) }
+    ensures few { IfOk result (λ found. length found.list ≤ 1048576) }
+    ensures lexed { IfOk result (λ found. tokens text.now ≡ Ok found) }
 {
     let Ok(tokens) = lex(alloc, text.as_bytes()) else {
         return Err(Unanswered::Unread("no tokens"));
@@ -26,6 +28,7 @@ pub fn tokens_of(alloc: Global, text: &str) -> Result<Tokens, Unanswered>
 pub fn expr_from(alloc: Global, tokens: &Tokens, from: u32) -> Result<Expr, Unanswered>
     requires few { length tokens.now.list ≤ 1048576 }
     requires within { from ≤ length tokens.now.list }
+    ensures { IfOk result (λ expr. IsWhole tokens.now from expr) }
 {
     let Ok(ParsedExpr { expr, next }) = parse_expr(alloc, tokens, from) else {
         return Err(Unanswered::Unread("no expression"));
@@ -37,18 +40,19 @@ pub fn expr_from(alloc: Global, tokens: &Tokens, from: u32) -> Result<Expr, Unan
 }
 
 /// The expression that a whole text is.
-pub fn expr_of(alloc: Global, text: &str) -> Result<Expr, Unanswered> {
+pub fn expr_of(alloc: Global, text: &str) -> Result<Expr, Unanswered>
+    ensures { IfOk result (λ expr. IsExprOfBytes text.now expr) }
+{
     let tokens = tokens_of(alloc, text)?;
     expr_from(alloc, &tokens, 0)
 }
 
 /// The unit that pieces of a text are, one after another.
-pub fn unit_of(alloc: Global, pieces: &[&str]) -> Result<Unit, Unanswered> {
-    let mut text = Text::new(alloc);
-    for piece in pieces {
-        text.add(piece);
-    }
-    let tokens = tokens_of(alloc, text.finish()?.as_str())?;
+pub fn unit_of(alloc: Global, pieces: &[&str]) -> Result<Unit, Unanswered>
+    ensures { IfOk result (λ unit. IsUnitOfBytes (flat_map (λ piece. piece.now) pieces.now) unit) }
+{
+    let text = pieces.concat(alloc)?;
+    let tokens = tokens_of(alloc, text.as_str())?;
     match parse_unit(alloc, &tokens) {
         Ok(unit) => Ok(unit),
         Err(SyntaxAnswer::Unexpected(at)) => Err(Unanswered::Unexpected(at)),
