@@ -39,6 +39,7 @@ use Rattle.spl_tree.proofs.code.UnaryCode.TheSendSync as unary
 use Rattle.spl_tree.proofs.graph.Graph.TheSendSync as graph
 use Rattle.spl_value.proofs.boxed.Boxed.TheSendSync as boxed
 use Rattle.spl_value.proofs.items.Items.TheSendSync as items
+use Rattle.spl_value.proofs.segmented_list.SegmentedList.TheSendSync as segmented_list
 use Rattle.spl_value.proofs.types.IntKind.TheSendSync as int_kind
 use Rattle.spl_value.proofs.types.Named.TheSendSync as named
 use Rattle.spl_value.proofs.types.SplType.TheLaws.TheKnot as spl_type
@@ -58,12 +59,15 @@ bytes = items.the_send u8 (search sendable)
 places : IsSend (Items.the_row u32)
 places = items.the_send u32 number
 
+pair : (A B : RattleType) → IsSend A → IsSend B → IsSend (Tuple (A ∷ B ∷ []))
+pair A B a b = declared_send (tuple_type (A ∷ B ∷ [])) (as_row_send (row_field A) a, (as_row_send (row_field B) b, tt))
+
 pairs : (A B : RattleType) → IsSend A → IsSend B → IsSend (Items.the_row (Tuple (A ∷ B ∷ [])))
-pairs A B a b = items.the_send (Tuple (A ∷ B ∷ [])) (declared_send (tuple_type (A ∷ B ∷ [])) (as_row_send (row_field A) a, (as_row_send (row_field B) b, tt)))
+pairs A B a b = items.the_send (Tuple (A ∷ B ∷ [])) (pair A B a b)
 
 -- values, types and codes
 value_field : IsSend (Value.the_field).row
-value_field = value.send-Value (search sendable) flag bytes items.the_send (λ h s. pairs h h s s)
+value_field = value.send-Value (search sendable) flag bytes items.the_send (λ h s. segmented_list.the_send _ (pair h h s s))
 
 type_field : IsSend (SplType.the_field).row
 type_field = spl_type.send-SplType int_kind.the_field_send boxed.the_send (λ h s. items.the_send _ (named.the_send h s))

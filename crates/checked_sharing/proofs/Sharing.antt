@@ -39,6 +39,7 @@ use Rattle.spl_tree.proofs.code.UnaryCode.TheSendSync as unary
 use Rattle.spl_tree.proofs.graph.Graph.TheSendSync as graph
 use Rattle.spl_value.proofs.boxed.Boxed.TheSendSync as boxed
 use Rattle.spl_value.proofs.items.Items.TheSendSync as items
+use Rattle.spl_value.proofs.segmented_list.SegmentedList.TheSendSync as segmented_list
 use Rattle.spl_value.proofs.types.IntKind.TheSendSync as int_kind
 use Rattle.spl_value.proofs.types.Named.TheSendSync as named
 use Rattle.spl_value.proofs.types.SplType.TheLaws.TheKnot as spl_type
@@ -58,12 +59,15 @@ bytes = items.the_sync u8 (search sendable)
 places : IsSync (Items.the_row u32)
 places = items.the_sync u32 number
 
+pair : (A B : RattleType) → IsSync A → IsSync B → IsSync (Tuple (A ∷ B ∷ []))
+pair A B a b = declared_sync (tuple_type (A ∷ B ∷ [])) (as_row_sync (row_field A) a, (as_row_sync (row_field B) b, tt))
+
 pairs : (A B : RattleType) → IsSync A → IsSync B → IsSync (Items.the_row (Tuple (A ∷ B ∷ [])))
-pairs A B a b = items.the_sync (Tuple (A ∷ B ∷ [])) (declared_sync (tuple_type (A ∷ B ∷ [])) (as_row_sync (row_field A) a, (as_row_sync (row_field B) b, tt)))
+pairs A B a b = items.the_sync (Tuple (A ∷ B ∷ [])) (pair A B a b)
 
 -- values, types and codes
 value_field : IsSync (Value.the_field).row
-value_field = value.sync-Value (search sendable) flag bytes items.the_sync (λ h s. pairs h h s s)
+value_field = value.sync-Value (search sendable) flag bytes items.the_sync (λ h s. segmented_list.the_sync _ (pair h h s s))
 
 type_field : IsSync (SplType.the_field).row
 type_field = spl_type.sync-SplType int_kind.the_field_sync boxed.the_sync (λ h s. items.the_sync _ (named.the_sync h s))

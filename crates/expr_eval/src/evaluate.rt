@@ -19,7 +19,7 @@ use crate::run::run_function;
 use evaluation_laws::evaluation_law;
 use language_model::Env;
 use spl_tree::{BinaryCode, BuiltIn, Code, Functions, MOST_EVALUATED, Selector, Slot, UnaryCode};
-use spl_value::{Evaluated, Items, Value, Values};
+use spl_value::{Evaluated, Items, SegmentedList, Value, Values};
 use std::alloc::Global;
 use value_operations::{
     Held, Stop, blanks, call_with_one, call_with_three, call_with_two, element_at, evaluated,
@@ -179,7 +179,7 @@ fn map<'e>(
     requires { IsFit context.now.functions.now (C.Map pairs.now) context.now.env.now }
     ensures { AnswersHeld (code_value (calls_of context.now.functions.now context.now.depth) (C.Map pairs.now) (world_of context.now.env.now) turns.old) result turns.new }
 {
-    let mut made = Items::new(context.alloc);
+    let mut made = SegmentedList::new(context.alloc);
     for pair in pairs {
         let key = own_value(context, room, &pair.0, turns)?;
         put_at_key(&mut made, key, own_value(context, room, &pair.1, turns))?;

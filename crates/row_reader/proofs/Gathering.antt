@@ -9,11 +9,13 @@ use Rattle.spl_value.specs.Script.{Script}
 use Rattle.spl_value.specs.declared.item.Item.{Item}
 use Rattle.spl_value.specs.declared.item.Item.TheVariants as I
 use Rattle.stream_model.specs.Rows.{Setting}
-use Rattle.stream_model.specs.Stream.{TuplesFit, any_closes, closes, is_closed, is_empty}
+use Rattle.stream_model.specs.Stream.{TuplesFit, any_closes, is_closed, is_empty}
+use Rattle.spl_value.specs.Numbered.{closes}
 use Rattle.row_reader.specs.declared.rows.Rows.{Rows}
 use Rattle.row_reader.specs.declared.rows.Stage.{Stage}
 use Rattle.row_reader.specs.declared.rows.Stage.TheVariants as S
-use Rattle.row_reader.specs.Reading.{Gives, ItemHas, NamesOperator, is_done, is_over, is_read_fault, to_come}
+use Rattle.row_reader.specs.Reading.{Gives, FitsSetting, is_done, is_over, to_come}
+use Rattle.stream_model.specs.SourceFaults.{NamesOperator, is_read_fault}
 
 -- these items were given of what was to come, and the rest is to come
 abbrev pub Gathered : Option (List Item) → List Item → Option (List Item) → Type 0
@@ -64,27 +66,27 @@ closed_last [] item h e = rw e refl
 closed_last (x ∷ items) item h e =
     closed_by (closes x) (any_closes items) (is_empty (items ++ item ∷ [])) (is_closed (items ++ item ∷ [])) h (λ g. closed_last items item g e)
 
-pub all_fit : (o : Setting) (items : List Item) → All (ItemHas o) items → TuplesFit o.schema items
+pub all_fit : (o : Setting) (items : List Item) → All (FitsSetting o) items → TuplesFit o.schema items
 all_fit o [] h = tt
-all_fit o (I.Tuple values ∷ items) h = (All-head (ItemHas o) (I.Tuple values) items h, all_fit o items (All-tail (ItemHas o) (I.Tuple values) items h))
-all_fit o (I.Window ∷ items) h = all_fit o items (All-tail (ItemHas o) I.Window items h)
-all_fit o (I.Final ∷ items) h = all_fit o items (All-tail (ItemHas o) I.Final items h)
-all_fit o (I.Bad fault ∷ items) h = all_fit o items (All-tail (ItemHas o) (I.Bad fault) items h)
+all_fit o (I.Tuple values ∷ items) h = (All-head (FitsSetting o) (I.Tuple values) items h, all_fit o items (All-tail (FitsSetting o) (I.Tuple values) items h))
+all_fit o (I.Window ∷ items) h = all_fit o items (All-tail (FitsSetting o) I.Window items h)
+all_fit o (I.Final ∷ items) h = all_fit o items (All-tail (FitsSetting o) I.Final items h)
+all_fit o (I.Bad fault ∷ items) h = all_fit o items (All-tail (FitsSetting o) (I.Bad fault) items h)
 
-names : (o : Setting) (item : Item) → ItemHas o item → NamesOperator o.op item
+names : (o : Setting) (item : Item) → FitsSetting o item → NamesOperator o.op item
 names o (I.Tuple values) h = tt
 names o I.Window h = tt
 names o I.Final h = tt
 names o (I.Bad fault) h = h
 
-pub all_named : (o : Setting) (items : List Item) → All (ItemHas o) items → All (NamesOperator o.op) items
+pub all_named : (o : Setting) (items : List Item) → All (FitsSetting o) items → All (NamesOperator o.op) items
 all_named o items h = λ k d lt. names o (get_or items k d) (h k d lt)
 
-pub none_has : (o : Setting) (items : List Item) → items ≡ [] → All (ItemHas o) items
+pub none_has : (o : Setting) (items : List Item) → items ≡ [] → All (FitsSetting o) items
 none_has o items e = λ k d lt. absurd (let size : length items ≡ 0 = ap length e in omega (arith, lt, size))
 
-pub one_has : (o : Setting) (items items2 : List Item) (item : Item) → All (ItemHas o) items → ItemHas o item → items2 ≡ items ++ item ∷ [] → All (ItemHas o) items2
-one_has o items items2 item h g e = subst (All (ItemHas o)) (sym e) (All-push (ItemHas o) items item h g)
+pub one_has : (o : Setting) (items items2 : List Item) (item : Item) → All (FitsSetting o) items → FitsSetting o item → items2 ≡ items ++ item ∷ [] → All (FitsSetting o) items2
+one_has o items items2 item h g e = subst (All (FitsSetting o)) (sym e) (All-push (FitsSetting o) items item h g)
 
 -- where the feed tells what it has, all that was to come is its rows
 pub told_rows : (r : Rows) (script : Option Script) (items : List Item) (whole : Script → List Item) → ((s : Script) → to_come r (Some s) ≡ Some (whole s))

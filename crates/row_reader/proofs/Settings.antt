@@ -21,7 +21,7 @@ use Rattle.stream_model.specs.parts.Rows.{pieces}
 use Rattle.row_reader.specs.declared.columns.Column.{Column}
 use Rattle.row_reader.specs.declared.rows.Rows.{Rows}
 use Rattle.row_reader.specs.Columns.{attributes, type_of}
-use Rattle.row_reader.specs.Reading.{IsFor, ItemHas, setting, setting_of}
+use Rattle.row_reader.specs.Reading.{IsFor, FitsSetting, setting, setting_of}
 
 abbrev pub kinds : List (Named SplType) → List SplType
 kinds schema = map (λ a. a.kind) schema
@@ -111,7 +111,7 @@ new_unread op columns schema strict limit how carry piece bytes c e =
 for_kinds : (r : Rows) (o : Setting) → IsFor r o → kinds (setting_of r).schema ≡ kinds o.schema
 for_kinds r o f = column_kinds r.lines.columns.items ∙ sym f.kinds
 
-pub for_has : (r : Rows) (o : Setting) (item : Item) → IsFor r o → ItemHas (setting_of r) item → ItemHas o item
+pub for_has : (r : Rows) (o : Setting) (item : Item) → IsFor r o → FitsSetting (setting_of r) item → FitsSetting o item
 for_has r o (I.Tuple values) f h =
     fits_tuple o.schema values ∙ sym (same_fits (setting_of r).schema o.schema values (for_kinds r o f)) ∙ sym (fits_tuple (setting_of r).schema values) ∙ h
 for_has r o I.Window f h = tt

@@ -17,13 +17,13 @@ use Rattle.stream_model.specs.Fields.{tuple_of}
 use Rattle.stream_model.specs.Rows.{Bad, Given, Row, checked_items, closing, items_from, last_items, line_gives, line_items, of_records, source_fault, too_long}
 use Rattle.stream_model.proofs.parts.Rows.{fitting}
 use Rattle.stream_model.specs.parts.Rows.{pieces}
-use Rattle.stream_model.specs.Stream.{closes}
+use Rattle.spl_value.specs.Numbered.{closes}
 use Rattle.row_reader.specs.declared.columns.Column.{Column}
 use Rattle.row_reader.specs.declared.rows.Rows.{Rows}
 use Rattle.row_reader.specs.declared.rows.Stage.{Stage}
 use Rattle.row_reader.specs.declared.rows.Stage.TheVariants as S
 use Rattle.row_reader.specs.Columns.{attributes}
-use Rattle.row_reader.specs.Reading.{Gives, ItemHas, by_stage, held, is_done, setting_of, to_come, unread}
+use Rattle.row_reader.specs.Reading.{Gives, FitsSetting, by_stage, held, is_done, setting_of, to_come, unread}
 use Rattle.row_reader.specs.steps.Finding.{IsFirstAt}
 use Rattle.row_reader.specs.steps.Steps.{GaveItem, GaveNone, IsBehind, IsKept, IsRead, Moves, Stays}
 use Rattle.row_reader.proofs.FieldValues.{row_fits}
@@ -66,7 +66,7 @@ stopped r r2 item kind line a o b is = record {
   setting = o;
   over = ap is_done b ∙ ap closes (sym is);
   fewer = rw (a, b) (omega arith);
-  has = subst (ItemHas (setting_of r)) (sym is) refl;
+  has = subst (FitsSetting (setting_of r)) (sym is) refl;
 }
 
 done_settles : (stage : Stage) → stage ≡ S.Done → Settles stage []
@@ -91,7 +91,7 @@ given_fits columns (fields ∷ []) values e = of_tuple (tuple_of (attributes col
       row_fits columns fields values (h ∙ ap Some (sym same))
 given_fits columns (fields ∷ more ∷ rest) values e = absurd (cc e)
 
-pub row_has : (r : Rows) (line : List ℕ) (values : List Value) → Row values ≡ line_gives (attributes (columns_in r)) line → ItemHas (setting_of r) (I.Tuple values)
+pub row_has : (r : Rows) (line : List ℕ) (values : List Value) → Row values ≡ line_gives (attributes (columns_in r)) line → FitsSetting (setting_of r) (I.Tuple values)
 row_has r line values e = fits_tuple (attributes (columns_in r)) values ∙ given_fits (columns_in r) (records default_config (strip_bom line)) values e
 
 -- ---- a line that a line feed ends

@@ -5,14 +5,13 @@ use Rattle.spl_value.specs.Script.{Script}
 use Rattle.spl_value.specs.Values.{fits}
 use Rattle.spl_value.specs.declared.item.Item.{Item}
 use Rattle.spl_value.specs.declared.item.Item.TheVariants as I
-use Rattle.spl_value.specs.declared.item.FaultKind.{FaultKind}
-use Rattle.spl_value.specs.declared.item.FaultKind.TheVariants as K
 use Rattle.spl_value.specs.declared.memory.NoMemory.{NoMemory}
 use Rattle.spl_value.specs.declared.types.Named.{Named}
 use Rattle.spl_value.specs.declared.types.SplType.{SplType}
 use Rattle.spl_value.specs.declared.types.SplType.TheVariants as T
 use Rattle.spl_value.specs.declared.value.Value.TheVariants as V
 use Rattle.stream_model.specs.Rows.{Setting, closing, items_from}
+use Rattle.stream_model.specs.SourceFaults.{is_read_fault}
 use Rattle.stream_model.specs.parts.Rows.{pieces}
 use Rattle.row_reader.specs.declared.rows.Rows.{Rows}
 use Rattle.row_reader.specs.declared.rows.Stage.{Stage}
@@ -79,22 +78,11 @@ abbrev pub most_left : Rows → ℕ
 most_left r = most_at r.stage r.left
 
 -- a tuple has values of the attributes, and a fault names the operator
-abbrev pub ItemHas : Setting → Item → Type 0
-ItemHas o (I.Tuple values) = IsTrue (fits (T.Tuple o.schema) (V.Tuple values))
-ItemHas o I.Window = ⊤
-ItemHas o I.Final = ⊤
-ItemHas o (I.Bad fault) = fault.op ≡ o.op
-
-abbrev pub is_read_failed : FaultKind → Bool
-is_read_failed K.ReadFailed = true
-is_read_failed _ = false
-
--- the fault of a read that failed
-abbrev pub is_read_fault : Item → Bool
-is_read_fault (I.Tuple values) = false
-is_read_fault I.Window = false
-is_read_fault I.Final = false
-is_read_fault (I.Bad fault) = is_read_failed fault.kind
+abbrev pub FitsSetting : Setting → Item → Type 0
+FitsSetting o (I.Tuple values) = IsTrue (fits (T.Tuple o.schema) (V.Tuple values))
+FitsSetting o I.Window = ⊤
+FitsSetting o I.Final = ⊤
+FitsSetting o (I.Bad fault) = fault.op ≡ o.op
 
 -- a read failed in the call
 abbrev pub failed_next : Result Item NoMemory → Bool
@@ -105,10 +93,3 @@ failed_next (Err e) = false
 abbrev pub failed_rows : Result (List Item) NoMemory → Bool
 failed_rows (Ok items) = list_any is_read_fault items
 failed_rows (Err e) = false
-
--- a fault names the operator
-abbrev pub NamesOperator : ℕ → Item → Type 0
-NamesOperator op (I.Tuple values) = ⊤
-NamesOperator op I.Window = ⊤
-NamesOperator op I.Final = ⊤
-NamesOperator op (I.Bad fault) = fault.op ≡ op

@@ -7,7 +7,7 @@ ghost use Rattle.feed_pour.specs.Counts.{Counted};
 ghost use Rattle.feed_pour.specs.Contents.{PieceGiven, failed_read};
 ghost use Rattle.language_model.specs.Checking.{has_text_form};
 ghost use Rattle.stream_model.specs.Rows.{Setting, line_gives, rows, source_fault, too_long};
-ghost use Rattle.stream_model.specs.Stream.{closes};
+ghost use Rattle.spl_value.specs.Numbered.{closes};
 ghost use Rattle.row_reader.specs.declared.rows.Stage.TheVariants as S;
 ghost use Rattle.row_reader.specs.Columns.{attributes};
 ghost use Rattle.row_reader.specs.steps.Finding.{IsFirstAt};
@@ -162,7 +162,8 @@ fn feed_at(piece: &Vec<u8>, from: usize, to: usize) -> Option<usize>
 }
 
 impl Rows {
-    ghost use Rattle.row_reader.specs.Reading.{Gives, IsFor, ItemHas, failed_next, is_over, is_read_fault, most_left, setting, setting_of, to_come};
+    ghost use Rattle.row_reader.specs.Reading.{Gives, IsFor, FitsSetting, failed_next, is_over, most_left, setting, setting_of, to_come};
+    ghost use Rattle.stream_model.specs.SourceFaults.{is_read_fault};
     ghost use Rattle.row_reader.specs.steps.Steps.{GaveItem, IsBehind, IsEnd, IsKept, IsLast, IsMark, IsRead, IsStop, Moves, Stepped, failed_step, placed};
 
     /// A source that has read nothing. Its schema has integers, booleans and texts.
@@ -446,7 +447,7 @@ impl Rows {
         ensures coming { IfOk result (λ item. Gives (to_come self.old (F.script feed.old)) item
             (to_come self.new (F.script feed.new))) }
         ensures over { IfOk result (λ item. is_over self.new ≡ closes item) }
-        ensures has { IfOk result (λ item. (o : Setting) → IsFor self.old o → ItemHas o item) }
+        ensures has { IfOk result (λ item. (o : Setting) → IsFor self.old o → FitsSetting o item) }
         ensures kept { IfOk result (λ _. (o : Setting) → IsFor self.old o → IsFor self.new o) }
         ensures fewer { IfOk result (λ _. most_left self.new < most_left self.old) }
         ensures cause { Counted (failed_next result) (F.faults feed.old) (F.faults feed.new) }

@@ -3,10 +3,12 @@ ghost use Rattle.std.specs.Prelude.{◌≡◌, ◌≤◌, ◌<◌, ◌^◌, ◌+
 ghost use Rattle.std.specs.List.{All};
 ghost use Rattle.std.specs.Vec.{vec_capacity};
 ghost use Rattle.feed_pour.specs.Counts.{Counted};
+ghost use Rattle.spl_value.specs.Numbered;
 ghost use Rattle.language_model.specs.Checking.{has_text_form};
 ghost use Rattle.stream_model.specs.Rows.{rows};
 ghost use Rattle.stream_model.specs.Stream.{TuplesFit, is_closed};
-ghost use Rattle.row_reader.specs.Reading.{NamesOperator, failed_rows, setting};
+ghost use Rattle.row_reader.specs.Reading.{failed_rows, setting};
+ghost use Rattle.stream_model.specs.SourceFaults.{NamesOperator};
 
 use crate::rows::Rows;
 use feed_pour::Feed;
@@ -15,7 +17,7 @@ use std::alloc::Global;
 
 /// Whether nothing follows an item.
 fn closes(item: &Item) -> bool
-    ensures { result ≡ Rattle.stream_model.specs.Stream.closes item.now }
+    ensures { result ≡ Numbered.closes item.now }
 {
     match item {
         Item::Tuple(_) | Item::Window => false,

@@ -59,11 +59,11 @@ same_places tuple key places e =
     ap (λ (has : ℕ → Bool). enc_values (map (λ (at : ℕ × Value). at.1) (filter (λ (at : ℕ × Value). has at.0) (enumerate_from 0 tuple)))) same
 
 -- the values from a place on whose places the key has
-abbrev chosen_from : List ℕ → ℕ → List Value → List Value
+abbrev pub chosen_from : List ℕ → ℕ → List Value → List Value
 chosen_from key n vs = map (λ at. at.1) (filter (λ at. has_place key at.0) (enumerate_from n vs))
 
 -- from a place on, what stands at the key's places
-abbrev SameFrom : List ℕ → ℕ → List Value → List Value → Type 0
+abbrev pub SameFrom : List ℕ → ℕ → List Value → List Value → Type 0
 SameFrom key n vs ws = (p : ℕ) → has_place key (n + p) ≡ true → slice_get vs p ≡ slice_get ws p
 
 taken : (b : Bool) (n : ℕ) (v : Value) (rest : List (ℕ × Value)) → map (λ (at : ℕ × Value). at.1) (cond b ((n, v) ∷ rest) rest) ≡ cond b (v ∷ map (λ (at : ℕ × Value). at.1) rest) (map (λ (at : ℕ × Value). at.1) rest)
@@ -96,7 +96,7 @@ none_chosen key n (w ∷ ws) same =
     ∙ none (has_place key n) w (chosen_from key (n + 1) ws) (λ h. same 0 (ap (has_place key) (omega arith) ∙ h))
     ∙ none_chosen key (n + 1) ws (λ p h. nothing w ws p (same (suc p) (ap (has_place key) (omega arith) ∙ h)))
 
-same_chosen : (key : List ℕ) (n : ℕ) (vs ws : List Value) → SameFrom key n vs ws → chosen_from key n vs ≡ chosen_from key n ws
+pub same_chosen : (key : List ℕ) (n : ℕ) (vs ws : List Value) → SameFrom key n vs ws → chosen_from key n vs ≡ chosen_from key n ws
 same_chosen key n [] ws same = sym (none_chosen key n ws same)
 same_chosen key n (v ∷ vs) [] same = none_chosen key n (v ∷ vs) (λ p h. sym (same p h))
 same_chosen key n (v ∷ vs) (w ∷ ws) same =

@@ -3,6 +3,7 @@ pub mod Lists
 pub mod FitsLaws
 pub mod OrderLaws
 pub mod PairsLaws
+pub mod SegmentLaws
 pub mod TypesLaws
 pub mod Induction
 pub mod CallsLaws

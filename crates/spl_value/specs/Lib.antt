@@ -1,3 +1,4 @@
+pub mod Flattened
 pub mod formers
 pub mod Values
 pub mod Order
@@ -17,3 +18,4 @@ pub mod Numbered
 pub mod Calls
 pub mod CallsLaws
 pub mod KeyOrder
+pub mod steps

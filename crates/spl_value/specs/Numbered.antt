@@ -7,7 +7,9 @@ use Rattle.spl_value.specs.declared.packet.Packet.{Packet}
 use Rattle.spl_value.specs.declared.packet.Packet.TheVariants as P
 use Rattle.spl_value.specs.declared.types.Named.{Named}
 use Rattle.spl_value.specs.declared.types.SplType.{SplType}
-use Rattle.spl_value.specs.Values.{tuple_fits}
+use Rattle.spl_value.specs.declared.types.SplType.TheVariants as T
+use Rattle.spl_value.specs.declared.value.Value.TheVariants as V
+use Rattle.spl_value.specs.Values.{fits}
 
 -- Streams
 
@@ -22,6 +24,10 @@ closes (Bad fault) = true
 abbrev pub cut : List Item → List Item
 cut [] = []
 cut (x ∷ xs) = x ∷ (if closes x then [] else cut xs)
+
+-- the second list is the first with some more after it
+abbrev pub IsPrefix : {A : Type 0} → List A → List A → Type 0
+IsPrefix {A = A} front whole = (rest : List A) × (front ++ rest ≡ whole)
 
 -- Items by number
 
@@ -176,9 +182,9 @@ abbrev pub stops_once : List Packet → Bool
 stops_once [] = true
 stops_once (p ∷ ps) = (if is_last p then nat_le (length ps) 0 else true) && stops_once ps
 
--- a tuple fits the schema
+-- a tuple has values of these attributes
 abbrev pub item_fits : List (Named SplType) → Item → Bool
-item_fits schema (Tuple values) = tuple_fits schema values
+item_fits schema (Tuple values) = fits (T.Tuple schema) (V.Tuple values)
 item_fits schema Window = true
 item_fits schema Final = true
 item_fits schema (Bad fault) = true
@@ -193,7 +199,8 @@ pub record IsProper (schema : List (Named SplType)) (packets : List Packet) : Ty
 -- the numbers never fall on a channel, and no number stands on items of two channels
 pub record AreApart (width : ℕ) (taken : ℕ → List Packet) : Type 0 where
   pub falls : (c : ℕ) → c < width → NeverFalls 0 (numbers_of (taken c))
-  pub apart : (n c d : ℕ) → c < width → d < width → list_any (λ p. p.0 == n) (items_of (taken c)) ≡ true → list_any (λ p. p.0 == n) (items_of (taken d)) ≡ true → c ≡ d
+  pub apart : (n c d : ℕ) → c < width → d < width → list_any (λ p. p.0 == n) (items_of (taken c)) ≡ true
+      → list_any (λ p. p.0 == n) (items_of (taken d)) ≡ true → c ≡ d
 
 -- and there are no pulses, and the items' numbers rise on each channel
 pub record AreRising (width : ℕ) (taken : ℕ → List Packet) : Type 0 where

@@ -2,7 +2,7 @@
 ghost use Rattle.std.specs.Prelude.{◌≡◌, IsTrue, IfOk, map};
 ghost use Rattle.spl_value.specs.Values.{fits, default_value};
 
-use crate::{Attribute, Items, NoMemory, SplType, Value, Values};
+use crate::{Attribute, Items, NoMemory, SegmentedList, SplType, Value, Values};
 use std::alloc::Global;
 
 /// The default of a type: 0, false, the empty text, list or map, and a tuple of its attributes'
@@ -17,7 +17,7 @@ pub fn default_of(alloc: Global, t: &SplType) -> Result<Value, NoMemory>
         SplType::Bool => Ok(Value::Bool(false)),
         SplType::Text => Ok(Value::Text(Items::new(alloc))),
         SplType::List(_) => Ok(Value::List(Items::new(alloc))),
-        SplType::Map(_, _) => Ok(Value::Map(Items::new(alloc))),
+        SplType::Map(_, _) => Ok(Value::Map(SegmentedList::new(alloc))),
         SplType::Tuple(schema) => Ok(Value::Tuple(default_values(alloc, schema.as_slice())?)),
     }
 }

@@ -6,6 +6,7 @@ use std::alloc::{AllocError, Global};
 use std::cmp::Ordering;
 use std::hash::{Hash, Hasher};
 use std::marker::Model;
+use std::mem::replace;
 
 /// A `Vec` that contracts see as the list of its elements, so that a copy equals what it copies.
 pub struct Items<T> {
@@ -63,6 +64,16 @@ impl<T> Items<T> {
     {
         let Items { items } = self;
         items
+    }
+
+    /// Takes the items out. The list that is left is empty. It takes no memory.
+    #[inline(always)]
+    pub fn take(&mut self) -> Items<T>
+        ensures taken { result ≡ self.old }
+        ensures left { self.new ≡ [] }
+    {
+        let alloc = *self.items.allocator();
+        replace(self, Items::new(alloc))
     }
 
     pub fn as_slice(&self) -> &[T]
@@ -149,6 +160,26 @@ impl<T> Items<T> {
         ensures { IsTrue result ↔ (self.now ≡ []) }
     {
         self.items.is_empty()
+    }
+}
+
+impl<T> Items<T> {
+    ghost use Rattle.std.proofs.Common.{drop};
+
+    /// Where the list takes its memory from.
+    pub fn allocator(&self) -> Global {
+        *self.items.allocator()
+    }
+
+    /// Takes the items from `at` on out into a list of their own.
+    pub fn split_off(&mut self, at: usize) -> Result<Items<T>, AllocError>
+        requires { at ≤ length self.old }
+        ensures front { OnOk result (self.new ≡ take at self.old) }
+        ensures back { IfOk result (λ more. more ≡ drop at self.old) }
+        ensures err { OnErr result (self.new ≡ self.old) }
+    {
+        let more = self.items.split_off(at)?;
+        Ok(Items { items: more })
     }
 }
 

@@ -13,6 +13,8 @@ mod packet;
 mod pairs;
 mod reserved;
 mod routing;
+mod segmented_list;
+mod segmented_pairs;
 mod types;
 mod value;
 mod wrapping;
@@ -29,6 +31,7 @@ pub use packet::Packet;
 pub use pairs::pairs_law;
 pub use reserved::Reserved;
 pub use routing::Routing;
+pub use segmented_list::{SegmentedIter, SegmentedList};
 pub use types::{
     Attribute, Bytes, Ids, Inputs, IntKind, Name, Named, Places, Schema, SplType, copy_schema,
     copy_type, same_type,

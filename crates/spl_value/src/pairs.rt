@@ -1,16 +1,13 @@
 //! The pairs of a map, by ascending key.
 ghost use Rattle.std.specs.Prelude.{◌≡◌, ◌≢◌, ◌↔◌, List, IsTrue, MatchResult, OnOk, OnErr, Contains};
-ghost use Rattle.std.specs.Option.{option_copied, option_copied_mut};
+ghost use Rattle.std.specs.Option.{option_copied};
 ghost use Rattle.spl_value.specs.Pairs.{are_pairs, pairs_get, pairs_contain, pairs_put, pairs_without, KeysRise, IsAt, IsGap};
 
 use crate::{Items, NoMemory, Value, order};
 
 impl Items<(Value, Value)> {
-    ghost use Rattle.std.specs.Borrow.{sem};
-    ghost use Rattle.spl_value.specs.PairsLends.{LendsValue};
-
     // The place of the key, or the place where it belongs, by binary search.
-    fn place(&self, key: &Value) -> Result<usize, usize>
+    pub(crate) fn place(&self, key: &Value) -> Result<usize, usize>
         requires { IsTrue (are_pairs self.now) }
         ensures { MatchResult result (IsAt key.now self.now) (IsGap key.now self.now) }
     {
@@ -19,7 +16,7 @@ impl Items<(Value, Value)> {
 
     /// The value at a key.
     #[tactic(auto, using(crate::proofs::PairsLaws::pairs_laws))]
-    pub fn find(&self, key: &Value) -> Option<&Value>
+    pub(crate) fn find(&self, key: &Value) -> Option<&Value>
         requires { IsTrue (are_pairs self.now) }
         ensures { option_copied result ≡ pairs_get self.now key.now }
     {
@@ -29,33 +26,9 @@ impl Items<(Value, Value)> {
         }
     }
 
-    /// The value at a key, to be changed there.
-    #[tactic(auto, using(crate::proofs::PairsLaws::pairs_laws))]
-    pub fn find_mut(&mut self, key: &Value) -> Option<&mut Value>
-        requires { IsTrue (are_pairs self.old) }
-        ensures* writes_back { sem 𝓛 (LendsValue self.entry key.now result) }
-        ensures value { option_copied_mut result ≡ pairs_get self.old key.now }
-    {
-        match self.place(key) {
-            Ok(at) => {
-                let pair = self.item_mut(at);
-                Some(&mut pair.1)
-            }
-            Err(_) => None,
-        }
-    }
-
-    /// Whether some pair has the key.
-    pub fn contains_key(&self, key: &Value) -> bool
-        requires { IsTrue (are_pairs self.now) }
-        ensures { result ≡ pairs_contain self.now key.now }
-    {
-        self.find(key).is_some()
-    }
-
     /// Puts a value at a key: in place of the value that the key has, or else in a new pair.
     #[tactic(auto, using(crate::proofs::PairsLaws::pairs_laws))]
-    pub fn put(&mut self, key: Value, value: Value) -> Result<(), NoMemory>
+    pub(crate) fn put(&mut self, key: Value, value: Value) -> Result<(), NoMemory>
         requires { IsTrue (are_pairs self.old) }
         ensures ok { OnOk result (self.new ≡ pairs_put self.old key value) }
         ensures err { OnErr result (self.new ≡ self.old) }
@@ -70,7 +43,7 @@ impl Items<(Value, Value)> {
 
     /// Takes the pair with the key out, and gives its value, where there is one.
     #[tactic(auto, using(crate::proofs::PairsLaws::pairs_laws))]
-    pub fn remove_key(&mut self, key: &Value) -> Option<Value>
+    pub(crate) fn remove_key(&mut self, key: &Value) -> Option<Value>
         requires { IsTrue (are_pairs self.old) }
         ensures value { result ≡ pairs_get self.old key.now }
         ensures others { self.new ≡ pairs_without self.old key.now }

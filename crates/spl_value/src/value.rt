@@ -1,6 +1,6 @@
 ghost use Rattle.std.specs.Prelude.{◌≡◌, ◌≢◌, ℕ, List, IfOk, MatchOption};
 
-use crate::{Bytes, Items, NoMemory, Reserved};
+use crate::{Bytes, Items, NoMemory, Reserved, SegmentedList};
 use std::alloc::Global;
 
 /// A value of the language. An integer stands as its number, whatever its kind.
@@ -77,7 +77,7 @@ pub type Values = Items<Value>;
 
 /// The pairs of a map: key and value. In a value that fits its type they stand by ascending key, with
 /// distinct keys; the calls on pairs want that and keep it.
-pub type Pairs = Items<(Value, Value)>;
+pub type Pairs = SegmentedList<(Value, Value)>;
 
 /// A copy of a value.
 #[cycle(copy)]
@@ -92,7 +92,7 @@ pub fn copy_value(alloc: Global, v: &Value) -> Result<Value, NoMemory>
             Ok(Value::Text(copied))
         }
         Value::List(values) => Ok(Value::List(copy_values(alloc, values.as_slice())?)),
-        Value::Map(pairs) => Ok(Value::Map(copy_pairs(alloc, pairs.as_slice())?)),
+        Value::Map(pairs) => Ok(Value::Map(copy_pairs(alloc, pairs)?)),
         Value::Tuple(values) => Ok(Value::Tuple(copy_values(alloc, values.as_slice())?)),
     }
 }
@@ -110,14 +110,14 @@ pub fn copy_values(alloc: Global, values: &[Value]) -> Result<Values, NoMemory>
 }
 
 #[cycle(copy)]
-fn copy_pairs(alloc: Global, pairs: &[(Value, Value)]) -> Result<Pairs, NoMemory>
+fn copy_pairs(alloc: Global, pairs: &Pairs) -> Result<Pairs, NoMemory>
     ensures { IfOk result (λ ws. ws ≡ pairs.now) }
 {
-    let mut copied = Reserved::with_capacity(alloc, pairs.len())?;
+    let mut copied = SegmentedList::with_capacity(alloc, pairs.len())?;
     for pair in pairs {
         let key = copy_value(alloc, &pair.0)?;
         let held = copy_value(alloc, &pair.1)?;
-        copied.push((key, held));
+        copied.push((key, held))?;
     }
-    Ok(copied.into_items())
+    Ok(copied)
 }

@@ -8,7 +8,7 @@
 //! | `{1: 'a', 2: 'b'}` | a map, by ascending key |
 //! | `<1, 'a'>` | a tuple: its attributes' values |
 use crate::text::Text;
-use spl_value::{FaultKind, Value};
+use spl_value::{FaultKind, Pairs, Value};
 
 /// Adds a value.
 #[cycle(value)]
@@ -29,7 +29,7 @@ pub fn add_value(text: &mut Text, value: &Value) {
         }
         Value::Map(pairs) => {
             text.add("{");
-            add_pairs(text, pairs.as_slice());
+            add_pairs(text, pairs);
             text.add("}");
         }
         Value::Tuple(values) => {
@@ -49,12 +49,14 @@ fn add_values(text: &mut Text, values: &[Value]) {
 }
 
 #[cycle(value)]
-fn add_pairs(text: &mut Text, pairs: &[(Value, Value)]) {
-    for (at, pair) in pairs.iter().enumerate() {
-        text.add_between(at, ", ");
+fn add_pairs(text: &mut Text, pairs: &Pairs) {
+    let mut written = 0;
+    for pair in pairs {
+        text.add_between(written, ", ");
         add_value(text, &pair.0);
         text.add(": ");
         add_value(text, &pair.1);
+        written = 1;
     }
 }
 

@@ -13,7 +13,7 @@ use Rattle.spl_value.specs.Calls.{CallOutcome, Gives, Faults}
 use Rattle.spl_value.specs.Pairs.{pairs_get, pairs_put}
 use Rattle.spl_tree.specs.declared.code.Selector.{Selector}
 use Rattle.spl_tree.specs.declared.code.Selector.TheVariants as K
-use Rattle.language_model.specs.Changes.{passed_on, changed, level_changed, level_index}
+use Rattle.language_model.specs.Changes.{passed_on, changed, level_changed, found_index}
 use Rattle.language_model.specs.Operators.{level_element}
 use Rattle.language_model.specs.parts.Operators.{found}
 use Rattle.language_model.proofs.parts.Operators.{given}
@@ -50,10 +50,10 @@ module _ (change : Option Value → CallOutcome) (steps rest : List (Selector Va
 
   element_changed : (n : Value) (vs : List Value) (o : CallOutcome) → steps ≡ K.Element n ∷ rest → level_element (O.List vs) (out-Value n) ≡ o
       → changed steps change (Some (V.List vs))
-      ≡ passed_on o (λ old. passed_on (changed rest change (Some old)) (λ new. Gives (V.List (slice_set vs (level_index (out-Value n)) new))))
+      ≡ passed_on o (λ old. passed_on (changed rest change (Some old)) (λ new. Gives (V.List (slice_set vs (found_index (out-Value n)) new))))
   element_changed n vs o is e =
       level (K.Element n) is (V.List vs) ∙ ap (level_changed (K.Element n) (changed rest change)) (V.outs-List vs)
-      ∙ ap (λ o. passed_on o (λ old. passed_on (changed rest change (Some old)) (λ new. Gives (V.List (slice_set vs (level_index (out-Value n)) new))))) e
+      ∙ ap (λ o. passed_on o (λ old. passed_on (changed rest change (Some old)) (λ new. Gives (V.List (slice_set vs (found_index (out-Value n)) new))))) e
 
   pub element_changes : (n : Value) (vs : List Value) (at : ℕ) (old new : Value) → steps ≡ K.Element n ∷ rest → IsPlaceIn (length vs) n (Some at) → slice_get vs at ≡ Some old
       → (r : Result (Unit {0}) Stop) → Changes (changed rest change (Some old)) r new → Changes (changed steps change (Some (V.List vs))) r (V.List (slice_set vs at new))

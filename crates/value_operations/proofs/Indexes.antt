@@ -12,7 +12,7 @@ use Rattle.spl_value.specs.declared.value.Value.TheOpen as O
 use Rattle.spl_value.specs.declared.value.Value.TheViews.{out-Value}
 use Rattle.spl_value.proofs.FitsLaws.{fits_int, int_from_fits}
 use Rattle.spl_value.specs.Values.{fits, kind_holds}
-use Rattle.language_model.specs.Changes.{level_index}
+use Rattle.language_model.specs.Changes.{found_index}
 use Rattle.language_model.specs.Operators.{element_at, level_element}
 use Rattle.language_model.specs.parts.Operators.{found}
 use Rattle.value_operations.specs.steps.Places.{IsIndex, IsPlaceIn}
@@ -43,7 +43,7 @@ module _ (v : Value) (fit : IsIndex v) where
     pub place_within : (at : ℕ) → FitsUnsigned w64 (to_z w128 (of_z w128 n)) → at ≡ nat_abs (to_z w128 (of_z w128 n)) → at < length_of → IsPlaceIn length_of v (Some at)
     place_within at f e lt =
         let z = number at f e in
-        (ap level_index (ap out-Value is ∙ V.outs-Int n ∙ ap O.Int z), lt, λ vs. element_is vs ∙ ap (element_at vs) z)
+        (ap found_index (ap out-Value is ∙ V.outs-Int n ∙ ap O.Int z), lt, λ vs. element_is vs ∙ ap (element_at vs) z)
 
     pub place_past : (at : ℕ) → FitsUnsigned w64 (to_z w128 (of_z w128 n)) → at ≡ nat_abs (to_z w128 (of_z w128 n)) → length_of ≤ at → IsPlaceIn length_of v None
     place_past at f e le vs long = element_is vs ∙ ap (element_at vs) (number at f e) ∙ ap (found K.Index) (slice_get_past vs at (omega arith))

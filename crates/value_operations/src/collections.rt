@@ -44,7 +44,7 @@ fn copied_elements(alloc: Global, value: &Value) -> Result<Values, NoMemory>
 {
     match value {
         Value::List(values) => copy_values(alloc, values.as_slice()),
-        Value::Map(pairs) => copied_keys(alloc, pairs.as_slice()),
+        Value::Map(pairs) => copied_keys(alloc, pairs),
         _ => unreachable!(),
     }
 }
@@ -53,7 +53,7 @@ fn keys(alloc: Global, pairs: Pairs) -> Result<Values, AllocError>
     ensures { IfOk result (λ vs. vs ≡ map (λ p. p.0) pairs) }
 {
     let mut keys = Items::with_capacity(alloc, pairs.len())?;
-    'pairs: for pair in pairs.into_vec() {
+    'pairs: for pair in pairs.into_items()?.into_vec() {
         keys.push(key_of(pair))?;
     }
     Ok(keys)
@@ -65,7 +65,7 @@ fn key_of(pair: (Value, Value)) -> Value
     pair.0
 }
 
-fn copied_keys(alloc: Global, pairs: &[(Value, Value)]) -> Result<Values, NoMemory>
+fn copied_keys(alloc: Global, pairs: &Pairs) -> Result<Values, NoMemory>
     ensures { IfOk result (λ vs. vs ≡ map (λ p. p.0) pairs.now) }
 {
     let mut keys = Items::with_capacity(alloc, pairs.len())?;

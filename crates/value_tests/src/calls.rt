@@ -5,7 +5,9 @@ ghost use Rattle.spl_value.specs.Calls.{FitsCollection, FitOrdered};
 
 use crate::words::number;
 use builtin_calls::{abs, append_m, clear_m, has, length, max, min, remove_m, size, substring};
-use spl_value::{Evaluated, IntKind, Items, NoMemory, Pairs, SplType, Value, Values, wrap};
+use spl_value::{
+    Evaluated, IntKind, Items, NoMemory, Pairs, SegmentedList, SplType, Value, Values, wrap,
+};
 use std::alloc::{AllocError, Global};
 use test_texts::rows::{Answers, Untrue, expect};
 use test_texts::text::Text;
@@ -46,7 +48,7 @@ fn keyed(alloc: Global, words: &str) -> Result<Pairs, NoMemory>
     ensures { IfOk result (λ ps. IsTrue
         (fits (SplType.Map (SplType.Int IntKind.I32) SplType.Bool) (Value.Map ps))) }
 {
-    let mut pairs = Items::new(alloc);
+    let mut pairs = SegmentedList::new(alloc);
     for word in words.split_whitespace() {
         pairs.put(integer(IntKind::I32, number(word)), Value::Bool(true))?;
     }

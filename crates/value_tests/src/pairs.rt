@@ -3,7 +3,7 @@ ghost use Rattle.std.specs.Prelude.{IsTrue, IfOk};
 ghost use Rattle.spl_value.specs.Pairs.{are_pairs};
 
 use crate::words::{key, number};
-use spl_value::{Items, NoMemory, Pairs, Value};
+use spl_value::{NoMemory, Pairs, SegmentedList, Value};
 use std::alloc::{AllocError, Global};
 use test_texts::rows::{Answers, Untrue, expect};
 use test_texts::text::Text;
@@ -14,7 +14,7 @@ use test_texts::words::cut;
 pub(crate) fn pairs_of(alloc: Global, words: &str) -> Result<Pairs, NoMemory>
     ensures { IfOk result (λ ps. IsTrue (are_pairs ps)) }
 {
-    let mut pairs = Items::new(alloc);
+    let mut pairs = SegmentedList::new(alloc);
     for word in words.split_whitespace() {
         let (key, value) = word.split_once(':').unwrap_or((word, ""));
         pairs.put(Value::Int(number(key)), Value::Int(number(value)))?;
@@ -151,7 +151,7 @@ fn pairs_are_found_and_changed_at_their_keys(rt: HostRuntime) -> Result<(), Untr
 fn even_keys(alloc: Global) -> Result<Pairs, NoMemory>
     ensures { IfOk result (λ ps. IsTrue (are_pairs ps)) }
 {
-    let mut pairs = Items::new(alloc);
+    let mut pairs = SegmentedList::new(alloc);
     for i in 0..1000u32 {
         let key = i128::from(i * 7 % 1000);
         pairs.put(Value::Int(2 * key), Value::Int(key))?;

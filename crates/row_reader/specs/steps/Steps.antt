@@ -3,10 +3,11 @@ use Rattle.std.specs.Prelude.{◌≡◌, ◌<◌, ◌≤◌, ◌+◌, ◌-◌, �
 use Rattle.spl_value.specs.declared.item.Item.{Item}
 use Rattle.spl_value.specs.declared.memory.NoMemory.{NoMemory}
 use Rattle.feed_pour.specs.declared.outside.Failed.{Failed}
-use Rattle.stream_model.specs.Stream.{closes}
+use Rattle.spl_value.specs.Numbered.{closes}
 use Rattle.row_reader.specs.declared.rows.Rows.{Rows}
 use Rattle.row_reader.specs.declared.rows.Stage.TheVariants as S
-use Rattle.row_reader.specs.Reading.{Gives, ItemHas, is_over, is_read_fault, most_left, setting_of}
+use Rattle.row_reader.specs.Reading.{Gives, FitsSetting, is_over, most_left, setting_of}
+use Rattle.stream_model.specs.SourceFaults.{is_read_fault}
 
 -- how many bytes are held
 abbrev pub held_size : Rows → ℕ
@@ -37,7 +38,7 @@ pub record GaveItem (a b : Rows) (item : Item) : Type 0 where
   pub setting : setting_of b ≡ setting_of a
   pub over : is_over b ≡ closes item
   pub fewer : most_left b < most_left a
-  pub has : ItemHas (setting_of a) item
+  pub has : FitsSetting (setting_of a) item
 
 abbrev pub Stepped : Rows → Rows → Option Item → Type 0
 Stepped a b (Some item) = GaveItem a b item

@@ -11,7 +11,7 @@ use Rattle.spl_value.specs.Values.{fits}
 use Rattle.spl_tree.specs.declared.body.Change.{Change}
 use Rattle.spl_tree.specs.declared.code.Selector.{Selector}
 use Rattle.language_model.specs.declared.env.Env.{Env}
-use Rattle.language_model.specs.Changes.{level_index}
+use Rattle.language_model.specs.Changes.{found_index}
 use Rattle.language_model.specs.Operators.{level_element}
 use Rattle.language_model.specs.parts.Operators.{found}
 use Rattle.value_operations.specs.Changing.{CanChange}
@@ -26,5 +26,5 @@ IsIndex v = (k : IntKind) × IsTrue (fits (T.Int k) v)
 -- the index is that of a place in a list of that length, or of none
 abbrev pub IsPlaceIn : ℕ → Value → Option ℕ → Type 0
 IsPlaceIn n v (Some at) =
-    (level_index (out-Value v) ≡ at) × (at < n) × ((vs : List Value) → level_element (O.List vs) (out-Value v) ≡ found F.Index (slice_get vs at))
+    (found_index (out-Value v) ≡ at) × (at < n) × ((vs : List Value) → level_element (O.List vs) (out-Value v) ≡ found F.Index (slice_get vs at))
 IsPlaceIn n v None = (vs : List Value) → length vs ≡ n → level_element (O.List vs) (out-Value v) ≡ Faults F.Index

@@ -2,7 +2,8 @@ use Rattle.std.proofs.Common.{sym, ap, refl, subst, ◌∙◌, Bool}
 use Rattle.std.specs.List.{All, list_any}
 use Rattle.feed_pour.specs.Counts.{Counted}
 use Rattle.stream_model.specs.Stream.{TuplesFit, any_closes, is_closed}
-use Rattle.row_reader.specs.Reading.{NamesOperator, is_read_fault, setting, to_come}
+use Rattle.row_reader.specs.Reading.{setting, to_come}
+use Rattle.stream_model.specs.SourceFaults.{NamesOperator, is_read_fault}
 use Rattle.row_reader.proofs.Gathering.{all_fit, all_named, closed_last, none_failed, none_gathered, none_has, one_has, one_more, open_more, open_passes}
 use Rattle.row_reader.proofs.whole.read_rows.Goals as goal
 
