@@ -36,7 +36,7 @@ use Rattle.language_model.proofs.Yielding.{Yields}
 use Rattle.stream_model.specs.declared.reply.Reply.{Reply}
 use Rattle.stream_model.specs.Stream.{Event, came}
 use Rattle.stream_model.specs.Operators.{Operator, input_attributes}
-use Rattle.stream_model.specs.PortEvents.{items_of}
+use Rattle.stream_model.specs.PortEvents.{port_items}
 use Rattle.stream_model.specs.Bodies.{Makes, at_tuple, most_turns}
 use Rattle.stream_model.specs.Aggregates.{aggregate_body, arguments, fired_give}
 use Rattle.stream_model.proofs.parts.Aggregates.{done_or_none}
@@ -206,13 +206,13 @@ module _ (op : Operator) (fit : IsFitting op) (window : Policy) (partition group
   pub has_input : (p : ℕ) (x : Item) → HasPort op p x → ItemHas shape.input x
   has_input p x has = subst (λ s. ItemHas s x) (only_input op.types.ins shape.input p shape.takes has.0) has.1
 
-  pub history_right : (h : List Event) → HistoryFits op h → NoneFaulted op h → AllByRecursion (ItemIs Right) (items_of 0 h)
+  pub history_right : (h : List Event) → HistoryFits op h → NoneFaulted op h → AllByRecursion (ItemIs Right) (port_items 0 h)
   history_right [] fits calm = tt
   history_right (e ∷ h) fits calm =
       let rest = history_right h fits.1 calm.1 in
-      let given : is_given (answer (aggregate_body op.functions window partition group output (items_of 0 h) e.item)) ≡ true =
+      let given : is_given (answer (aggregate_body op.functions window partition group output (port_items 0 h) e.item)) ≡ true =
       sym (ap (λ c. is_given (answer (makes_by c op h e.input e.item))) is) ∙ calm.0 in
-      all_if (ItemIs Right) (e.input == 0) (e.item ∷ items_of 0 h) (items_of 0 h) (item_right (items_of 0 h) e.item (has_input e.input e.item fits.0) given, rest) rest
+      all_if (ItemIs Right) (e.input == 0) (e.item ∷ port_items 0 h) (port_items 0 h) (item_right (port_items 0 h) e.item (has_input e.input e.item fits.0) given, rest) rest
 
 -- ---- what is fired
 
@@ -323,21 +323,21 @@ module _ (clauses : Clauses) (w : Window) (env : Env) (h : List Event) (port : �
   abbrev calm : NoneFaulted it h
   calm = none_faulted it h may.goes_on
 
-  abbrev came_right_so : AllByRecursion (ItemIs (OwnRight clauses may.fitting stood.are stood.width)) (items_of 0 h)
+  abbrev came_right_so : AllByRecursion (ItemIs (OwnRight clauses may.fitting stood.are stood.width)) (port_items 0 h)
   came_right_so = history_right it may.fitting clauses.window.now clauses.partition.now clauses.group.now clauses.output.now stood.are h may.history calm
 
   abbrev has : ItemHas (own clauses may.fitting stood.are stood.width).input x
   has = has_input it may.fitting clauses.window.now clauses.partition.now clauses.group.now clauses.output.now stood.are port x may.has
 
   makes_is : makes_by it.clauses it h port x ≡ item_makes clauses clauses.window.now.rule (came_into clauses h) x
-  makes_is = ap (λ part. makes_by part it h port x) stood.are ∙ body_is clauses may.fitting stood.are stood.width (items_of 0 h) came_right_so x has
+  makes_is = ap (λ part. makes_by part it h port x) stood.are ∙ body_is clauses may.fitting stood.are stood.width (port_items 0 h) came_right_so x has
 
   pub idle_there : env ≡ idle
   idle_there = stood.no_tuple may.goes_on
 
   pub may_there : MayCome clauses w x
   may_there =
-      may_come clauses may.fitting stood.are stood.width (items_of 0 h) came_right_so w (stood.window may.goes_on) x has
+      may_come clauses may.fitting stood.are stood.width (port_items 0 h) came_right_so w (stood.window may.goes_on) x has
       (subst (MakesFit it) makes_is (law it h port x refl may.fitting may.history calm may.has))
 
   abbrev ItemReplies : Reply → Type 0
@@ -366,4 +366,4 @@ module _ (clauses : Clauses) (w : Window) (env : Env) (h : List Event) (port : �
       behind_so : ((rule : WindowRule) (k : List WindowEvent) → Stands rule w k → Stands rule new (events_after clauses x k)) → Stands clauses.window.now.rule new (came_into clauses (came port x ∷ h))
       behind_so move =
           subst (λ p. Stands clauses.window.now.rule new (came_into clauses (came p x ∷ h))) (sym first_port)
-          (subst (Stands clauses.window.now.rule new) (behind_is clauses x (items_of 0 h)) (move clauses.window.now.rule (came_into clauses h) (stood.window may.goes_on)))
+          (subst (Stands clauses.window.now.rule new) (behind_is clauses x (port_items 0 h)) (move clauses.window.now.rule (came_into clauses h) (stood.window may.goes_on)))

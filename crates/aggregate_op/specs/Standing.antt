@@ -6,7 +6,7 @@ use Rattle.language_model.specs.declared.checked.CheckedClauses.TheVariants as A
 use Rattle.language_model.specs.declared.env.Env.{Env}
 use Rattle.stream_model.specs.CheckedMeaning.{operator_with}
 use Rattle.stream_model.specs.Operators.{Operator, input_attributes}
-use Rattle.stream_model.specs.PortEvents.{items_of}
+use Rattle.stream_model.specs.PortEvents.{port_items}
 use Rattle.stream_model.specs.Stream.{Event}
 use Rattle.stream_model.specs.Windows.{WindowEvent, partition_key, window_events}
 use Rattle.stream_model.specs.WindowLaws.{mapped}
@@ -30,7 +30,7 @@ operator_of clauses = operator_with clauses.at.checked.now clauses.at.number cla
 
 -- what came into the window
 abbrev pub came_into : Clauses → List Event → List WindowEvent
-came_into clauses h = mapped (tuple_with_arguments clauses) (window_events (key_of_tuple clauses) (items_of 0 h))
+came_into clauses h = mapped (tuple_with_arguments clauses) (window_events (key_of_tuple clauses) (port_items 0 h))
 
 -- while the operator hasn't ended by a fault, the window stands, and no tuple is in the environment
 pub record AggregateStands (clauses : Clauses) (w : Window) (env : Env) (h : List Event) : Type 0 where

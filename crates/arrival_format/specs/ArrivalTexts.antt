@@ -1,5 +1,6 @@
--- Arrival records as text: the line `arrivals 1`, and then a line for each operator with several connections, in the order of the
--- operators. It has the operator's name and the numbers of its inputs, each after a blank. Each line ends with a line feed.
+-- Arrival records as text: the line `arrivals 1`, and then a line for each operator with several connections, in the
+-- order of the operators. It has the operator's name and the numbers of its inputs, each after a blank. Each line ends
+-- with a line feed.
 use Rattle.std.specs.Prelude.{◌≡◌, ◌<◌, ◌≤◌, ◌^◌, ⊤, ℕ, List, [], ◌∷◌, ◌++◌, map, length, codes, slice_get, Result, Ok, Err}
 use Rattle.std.specs.Fmt.{decimal}
 use Rattle.std.specs.List.{AllByRecursion, flat_map}

@@ -4,7 +4,7 @@ use Rattle.std.specs.List.{list_any}
 use Rattle.std.specs.Str.{bytes_eq}
 use Rattle.std.proofs.Common.{refl, sym, ◌∙◌}
 use Rattle.spl_tree.specs.declared.unit.TypeDefinition.{TypeDefinition}
-use Rattle.language_model.specs.Invoking.{is_among}
+use Rattle.language_model.specs.Names.{is_named}
 use Rattle.language_model.specs.Scopes.{at_place, first_from}
 use Rattle.language_model.specs.TypeNames.{definition_of}
 use Rattle.body_sites.specs.Names.{type_names_of}
@@ -18,7 +18,7 @@ first_among name i (d ∷ ds) =
       | false ↦ first_among name (suc i) ds
     ]
 
-pub defined_among : (name : List ℕ) (ds : List TypeDefinition) → is_among name (type_names_of ds) ≡ is_some (definition_of ds name)
+pub defined_among : (name : List ℕ) (ds : List TypeDefinition) → is_named (type_names_of ds) name ≡ is_some (definition_of ds name)
 defined_among name ds = sym (first_among name 0 ds)
 
 pub type_here : (a b r : Bool) → r ≡ a → r ≡ true → r ≡ (a || b)

@@ -1,6 +1,7 @@
 //! What is looked up by name in the bodies of composites.
 ghost use Rattle.std.specs.Prelude.{◌≡◌, IfOk};
-ghost use Rattle.language_model.specs.Invoking.{input_names, is_among, stream_names};
+ghost use Rattle.language_model.specs.Invoking.{input_names, stream_names};
+ghost use Rattle.language_model.specs.Names.{is_named};
 ghost use Rattle.language_model.specs.parts.StreamTypes.{output_names};
 ghost use Rattle.program_tables.specs.Names.{HoldsNames};
 ghost use Rattle.body_sites.specs.Names.{type_names_of};
@@ -44,7 +45,7 @@ impl<'u> BodyNames<'u> {
     }
 
     pub(crate) fn has_type(&self, name: &[u8]) -> bool
-        ensures { result ≡ is_among name.now (type_names_of self.now.composite.now.types) }
+        ensures { result ≡ is_named (type_names_of self.now.composite.now.types) name.now }
     {
         self.types.has(name)
     }

@@ -2,7 +2,7 @@
 ghost use Rattle.std.specs.Prelude.{◌≡◌, map, IfOk};
 ghost use Rattle.std.specs.Option.{option_copied, option_map};
 ghost use Rattle.language_model.specs.Composites.{composites};
-ghost use Rattle.language_model.specs.Invoking.{is_among};
+ghost use Rattle.language_model.specs.Names.{is_named};
 ghost use Rattle.language_model.specs.DollarTargets.{composite_of, arguments_of};
 ghost use Rattle.language_model.specs.TypeNames.{type_definitions};
 ghost use Rattle.body_sites.specs.Bodies.{body_at_sites, body_seen};
@@ -113,7 +113,7 @@ impl<'a> Sites<'a> {
 
     /// Whether the unit defines a type of the name.
     pub(crate) fn has_type(&self, name: &[u8]) -> bool
-        ensures { result ≡ is_among name.now (type_names_of (type_definitions self.now.unit.now)) }
+        ensures { result ≡ is_named (type_names_of (type_definitions self.now.unit.now)) name.now }
     {
         self.unit_names.has(name)
     }

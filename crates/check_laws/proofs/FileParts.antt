@@ -24,7 +24,7 @@ use Rattle.language_model.proofs.parts.Checking.{body_checked, operator_scope, s
 use Rattle.language_model.specs.parts.Checking.{file_given, is_partitioned, operators_checked, output_rows, ports_checked, ports_of, strict_given, surroundings, windows_checked}
 use Rattle.language_model.specs.Keeping as F
 use Rattle.language_model.specs.Keeping.{PartFits}
-use Rattle.language_model.specs.DollarTargets.{followed, invocation_at, value_named}
+use Rattle.language_model.specs.DollarTargets.{expression_meant, invocation_at, value_named}
 use Rattle.language_model.specs.Literals.{file_typing, number_literal}
 use Rattle.language_model.specs.LogicTyping.{Surroundings}
 use Rattle.language_model.specs.ParameterTyping.{Site, needed, role_of}
@@ -135,7 +135,7 @@ module _ (unit : List Definition) (g : Graph) (tables : Tables) where
       let invoked : invocation_at unit g.expansions op.site ≡ Some i =
       ap (option_and_then (λ (c : Composite). slice_get c.graph op.site.invocation)) at.composite ∙ there in
       let scope = operator_scope unit tables b ports in
-      let typed = subst (λ number. file_typing scope (followed unit g.expansions number) h.expr ≡ Ok file) at.numbered h.typed in
+      let typed = subst (λ number. file_typing scope (expression_meant unit g.expansions number) h.expr ≡ Ok file) at.numbered h.typed in
       let text = text_in unit g.expansions op.site.expansion in
       ap (option_and_then (λ (k : Invocation). option_and_then text (value_named k.clauses.parameters (codes "file")))) invoked
       ∙ ap (option_and_then text) h.there

@@ -12,7 +12,7 @@ use Rattle.spl_tree.specs.declared.unit.Definition.{Definition}
 use Rattle.spl_tree.specs.Trees.{Expr}
 use Rattle.language_model.specs.declared.scope.Scope.{Scope}
 use Rattle.language_model.specs.Literals as L
-use Rattle.language_model.specs.DollarTargets.{Target, arguments_of, followed, followed_within, heads_of, here_or, level_target, parameter_target}
+use Rattle.language_model.specs.DollarTargets.{Target, arguments_of, expression_meant, expression_within, heads_of, here_or, level_target, parameter_target}
 use Rattle.language_model.specs.parts.DollarTargets.{target_in}
 use Rattle.language_model.specs.Literals.{file_or_mismatch, file_typing, level_file}
 use Rattle.language_model.specs.parts.Literals.{is_file_name, text_at}
@@ -47,7 +47,7 @@ literal_found unit (y ∷ ys) number x e bytes is there =
     ∙ ap level_text is
   where
     outside : Expansion → Expr → Option Expr
-    outside z a = option_and_then (λ s. followed_within (length ys) unit (y ∷ ys) s.expansion a) z.site
+    outside z a = option_and_then (λ s. expression_within (length ys) unit (y ∷ ys) s.expansion a) z.site
 
     own : Expansion → Option Expr
     own z = here_or (outside z) (target_in unit (y ∷ ys) z e)
@@ -57,15 +57,15 @@ literal_found unit (y ∷ ys) number x e bytes is there =
 
 -- what the checks take as a file is the text of the expression
 pub file_found : (scope : Scope) (unit : List Definition) (expansions : List Expansion) (number : ℕ) (x : Expansion) (e : Expr) (file : List ℕ)
-    → slice_get expansions number ≡ Some x → file_typing scope (followed unit expansions number) e ≡ Ok file
+    → slice_get expansions number ≡ Some x → file_typing scope (expression_meant unit expansions number) e ≡ Ok file
     → text_in unit expansions number e ≡ Some file
 file_found scope unit expansions number x e file there found = level_found (out-ExprKind e.what) refl found
   where
-    level_found : (k : ExprKind-F ExprKind) → out-ExprKind e.what ≡ k → level_file scope (followed unit expansions number) e k ≡ Ok file
+    level_found : (k : ExprKind-F ExprKind) → out-ExprKind e.what ≡ k → level_file scope (expression_meant unit expansions number) e k ≡ Ok file
         → text_in unit expansions number e ≡ Some file
     level_found (X.Text bytes) is f =
         literal_found unit expansions number x e bytes is there ∙ ap (λ (b : List ℕ). Some b) (file_is e.at bytes file f)
     level_found (X.Dollar name) is f =
-        let t = after_gives (typing scope e (Some S.Text)) (λ t. text_at e.at (followed unit expansions number e)) file f in
-        text_found e.at (followed unit expansions number e) file t.2
+        let t = after_gives (typing scope e (Some S.Text)) (λ t. text_at e.at (expression_meant unit expansions number e)) file f in
+        text_found e.at (expression_meant unit expansions number e) file t.2
     level_found _ is f = absurd cc

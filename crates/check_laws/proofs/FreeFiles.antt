@@ -6,7 +6,7 @@ use Rattle.std.proofs.lemmas.Bool.{or_parts}
 use Rattle.std.proofs.lemmas.List.Folds.{list_any-append}
 use Rattle.language_model.specs.Declarations.{is_same, repeated, repeated_after}
 use Rattle.language_model.specs.SinkFiles.{OpFile, is_had}
-use Rattle.check_laws.specs.Files.{is_named}
+use Rattle.language_model.specs.Names.{is_named}
 use Rattle.check_laws.proofs.FileParts.{bare}
 
 -- one of two that have the same file is a sink

@@ -2,6 +2,7 @@ mod PlainStates
 mod DollarTables
 pub mod SignedFunctions
 mod UnitGraphs
+mod DollarsMeant
 mod SourceCounts
 mod GraphLimits
 mod StreamSchemas

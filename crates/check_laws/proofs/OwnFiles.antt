@@ -26,7 +26,8 @@ use Rattle.language_model.specs.Parameters.{dollar_tables}
 use Rattle.language_model.specs.Scopes.{At}
 use Rattle.language_model.specs.SinkFiles.{OpFile, op_file}
 use Rattle.language_model.specs.Typing.{after}
-use Rattle.check_laws.specs.Files.{OwnFiles, is_named, sink_files, source_files}
+use Rattle.language_model.specs.Files.{OwnFiles, sink_files, source_files}
+use Rattle.language_model.specs.Names.{is_named}
 use Rattle.check_laws.specs.KeepsLaw.{KeepsLaw}
 use Rattle.check_laws.specs.OwnFilesLaw.{OwnFilesLaw}
 use Rattle.check_laws.proofs.FileParts.{Fitted, operators_files, part_file}

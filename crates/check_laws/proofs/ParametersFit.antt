@@ -34,12 +34,12 @@ use Rattle.language_model.specs.FitLaws.{DollarsFit}
 use Rattle.language_model.specs.Keeping.{ConditionFits, KeysFit, Once}
 use Rattle.language_model.specs.Literals.{file_or_mismatch, file_typing, level_file, level_text}
 use Rattle.language_model.specs.parts.Literals.{is_file_name, text_at}
-use Rattle.language_model.specs.ParameterTyping.{Site, extra, key_of, keys_typing, level_index, missing, needed, one_value, parameter_typing, parameters_typing, role_of, single_value, value_given, value_typing}
+use Rattle.language_model.specs.ParameterTyping.{Site, extra, key_of, keys_typing, missing, needed, one_value, parameter_typing, parameters_typing, role_of, single_value, value_given, value_typing}
 use Rattle.language_model.specs.parts.ParameterTyping.{first_schema, format_of, level_key, parsing_of, position_of, some_keys, word_of}
 use Rattle.language_model.proofs.parts.ParameterTyping.{key_at}
 use Rattle.language_model.specs.Scopes.{At, attribute_of}
 use Rattle.language_model.proofs.Standing.{Bears, attribute_there}
-use Rattle.language_model.specs.Typing.{after, mismatch, typing}
+use Rattle.language_model.specs.Typing.{after, level_index, mismatch, typing}
 use Rattle.check_laws.proofs.Accepting.{TypingGives, gives_if, none_at, typed_fits, wanted_fits}
 use Rattle.language_model.proofs.FoundAnswers.{Gives, gives_after, gives_then}
 use Rattle.spl_value.proofs.Lists.{any_first as in_front}
@@ -187,7 +187,7 @@ position_fits scope at (Some word) =
     gives_if (ValueFits scope R.Position) (bytes_eq word (codes "after")) (Ok (V.Position P.After)) (mismatch at) (λ is. tt) (λ last. tt))
 
 index_fits : (scope : Scope) (at : ℕ) (code : Code Slot) (t : SplType) (x : SplType-F SplType) → out-SplType t ≡ x → CodeFits scope code t
-    → Gives (ValueFits scope R.Index) (level_index at code x)
+    → Gives (ValueFits scope R.Index) (after (level_index at code x) (λ code. Ok (V.Code code)))
 index_fits scope at code t (T.Int kind) is h = (kind, subst (CodeFits scope code) (rolled t (T.Int kind) (S.Int kind) is (S.rolls-Int kind)) h)
 index_fits scope at code t _ is h = tt
 

@@ -26,7 +26,7 @@ use Rattle.language_model.specs.declared.kinds.WindowForm.TheVariants as W
 use Rattle.language_model.specs.declared.scope.CheckError.TheVariants as E
 use Rattle.language_model.specs.declared.scope.Port.{Port}
 use Rattle.language_model.specs.declared.scope.Scope.{Scope}
-use Rattle.language_model.specs.Checking.{Checks, are_passed, as_places, clauses_checked, config_checked, first_of, fit_ports, has_text_form, logic_checked, parameters_checked, part_of, plain, rows_checked, there, tuple_of}
+use Rattle.language_model.specs.Checking.{Checks, are_passed, as_places, clauses_checked, config_checked, first_list, fit_ports, has_text_form, logic_checked, parameters_checked, part_of, plain, rows_checked, there, tuple_of}
 use Rattle.language_model.specs.parts.Checking.{aggregated, code_given, file_given, file_sink, file_source, functor, is_partitioned, joined, output_rows, outputs_checked, places_given, position_given, punctor, split, strict_given, union, windows_checked}
 use Rattle.language_model.specs.CodeFits.{CodeFits}
 use Rattle.language_model.specs.FitLaws.{DollarsFit}
@@ -175,8 +175,8 @@ module _ (laws : TypingGives) (x : Checks) (bare : x.around.scope.vars ≡ []) (
   -- the tuple that is made for the one output
   tuple_for : (schema : Attributes) (rows : List OutputAssignments) → x.around.schemas ≡ schema ∷ [] → Gives (TupleFits x.around.scope schema) (tuple_of x rows)
   tuple_for schema rows is =
-      subst (λ s. Gives (TupleFits x.around.scope s) (tuple_of x rows)) (ap first_of is)
-      (tuple_fits laws x.around.scope bare fine x.at (first_of x.around.schemas) (first_of x.around.outputs) rows)
+      subst (λ s. Gives (TupleFits x.around.scope s) (tuple_of x rows)) (ap first_list is)
+      (tuple_fits laws x.around.scope bare fine x.at (first_list x.around.schemas) (first_list x.around.outputs) rows)
 
   source_fits : (clauses : Clauses) → FitPorts O.FileSource → Parameters O.FileSource → Gives (Fit O.FileSource) (file_source x clauses)
   source_fits clauses count params =
@@ -252,9 +252,9 @@ module _ (laws : TypingGives) (x : Checks) (bare : x.around.scope.vars ≡ []) (
   union_fits : (clauses : Clauses) → FitPorts O.Union → Gives (Fit O.Union) (union x clauses)
   union_fits clauses count =
       let output = one x.around.schemas (outputs_within O.Union count) in
-      gives_after (InputsFit output.0 x.around.scope.ports) (Fit O.Union) (inputs_typing x.at (first_of x.around.schemas) x.around.scope.ports) _
-      (subst (λ s. Gives (InputsFit s x.around.scope.ports) (inputs_typing x.at (first_of x.around.schemas) x.around.scope.ports)) (ap first_of output.1)
-      (inputs_fit x.at (first_of x.around.schemas) x.around.scope.ports)) (λ places fit.
+      gives_after (InputsFit output.0 x.around.scope.ports) (Fit O.Union) (inputs_typing x.at (first_list x.around.schemas) x.around.scope.ports) _
+      (subst (λ s. Gives (InputsFit s x.around.scope.ports) (inputs_typing x.at (first_list x.around.schemas) x.around.scope.ports)) (ap first_list output.1)
+      (inputs_fit x.at (first_list x.around.schemas) x.around.scope.ports)) (λ places fit.
       plain_fits (Fit O.Union) O.Union clauses (A.Union places)
       (at_ports O.Union (A.Union places) x.around.scope.ports (output.0 ∷ []) refl output.1
       (F.union places (schemas_of x.around.scope.ports) output.0 (fit.count ∙ sym (length-map x.around.scope.ports (λ p. p.schema))) fit.fit)))
@@ -281,9 +281,9 @@ module _ (laws : TypingGives) (x : Checks) (bare : x.around.scope.vars ≡ []) (
       let partition = places_given x.given (codes "partitionBy") in
       let group = places_given x.given (codes "groupBy") in
       gives_after (GroupsFit x.around.scope output.0) (Fit O.Aggregate)
-      (groups_typing x.around.scope x.at (first_of x.around.schemas) (first_of x.around.outputs) rows) _
-      (subst (λ s. Gives (GroupsFit x.around.scope s) (groups_typing x.around.scope x.at (first_of x.around.schemas) (first_of x.around.outputs) rows)) (ap first_of output.1)
-      (groups_fit laws x.around.scope bare fine x.at (first_of x.around.schemas) (first_of x.around.outputs) rows)) (λ groups fit.
+      (groups_typing x.around.scope x.at (first_list x.around.schemas) (first_list x.around.outputs) rows) _
+      (subst (λ s. Gives (GroupsFit x.around.scope s) (groups_typing x.around.scope x.at (first_list x.around.schemas) (first_list x.around.outputs) rows)) (ap first_list output.1)
+      (groups_fit laws x.around.scope bare fine x.at (first_list x.around.schemas) (first_list x.around.outputs) rows)) (λ groups fit.
       plain_fits (Fit O.Aggregate) O.Aggregate clauses (A.Aggregate window partition group groups)
       (at_ports O.Aggregate (A.Aggregate window partition group groups) (input.0 ∷ []) (output.0 ∷ []) input.1 output.1
       (F.aggregate window partition group groups input.0.schema output.0 on_port.0

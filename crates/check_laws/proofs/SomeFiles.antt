@@ -1,7 +1,7 @@
 -- Which of some parts have files of their own.
 use Rattle.std.specs.Prelude.{◌≡◌, true, false, [], ◌∷◌, codes}
 use Rattle.std.proofs.Common.{refl}
-use Rattle.check_laws.specs.Files.{OwnFiles}
+use Rattle.language_model.specs.Files.{OwnFiles}
 use Rattle.check_laws.specs.examples.SomeFiles.{sink_of, source_of, two_sinks}
 use Rattle.check_laws.proofs.OwnFiles.{own_files}
 

@@ -1,5 +1,5 @@
 pub mod PartsLaw
 pub mod KeepsLaw
-pub mod Files
 pub mod OwnFilesLaw
+pub mod DollarMeantLaw
 pub mod examples

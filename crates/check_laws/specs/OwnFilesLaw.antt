@@ -5,7 +5,7 @@ use Rattle.spl_tree.specs.declared.unit.Definition.{Definition}
 use Rattle.language_model.specs.CheckedGraph.{CheckedGraph}
 use Rattle.language_model.specs.Checking.{checked}
 use Rattle.language_model.specs.Flat.{IsFlat}
-use Rattle.check_laws.specs.Files.{OwnFiles}
+use Rattle.language_model.specs.Files.{OwnFiles}
 
 -- each sink has a file of its own, and none of these names, in what is found of the graph of a unit
 abbrev pub OwnFilesLaw : Type 0

@@ -1,4 +1,5 @@
 //! What the checks of a program give.
+ghost use Rattle.check_laws.specs.DollarMeantLaw.{DollarMeantLaw};
 ghost use Rattle.check_laws.specs.KeepsLaw.{KeepsLaw};
 ghost use Rattle.check_laws.specs.PartsLaw.{PartsLaw};
 
@@ -25,3 +26,9 @@ pub fn keeps_law()
     bodies_law();
     flat_law();
 }
+
+/// The expression that a `$` parameter means in an expansion of a unit's graph has the type and the code that the
+/// parameter has there.
+pub fn dollar_meant_law()
+    ensures meant { DollarMeantLaw }
+{}

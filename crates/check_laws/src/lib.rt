@@ -5,5 +5,5 @@
 mod laws;
 mod own_files;
 
-pub use laws::{keeps_law, parts_law};
+pub use laws::{dollar_meant_law, keeps_law, parts_law};
 pub use own_files::{own_files_law, own_files_on_literals};

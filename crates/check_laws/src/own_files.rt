@@ -1,6 +1,6 @@
 //! No sink writes a file that something else has.
 ghost use Rattle.std.specs.Prelude.{[], ◌∷◌, codes};
-ghost use Rattle.check_laws.specs.Files.{OwnFiles};
+ghost use Rattle.language_model.specs.Files.{OwnFiles};
 ghost use Rattle.check_laws.specs.OwnFilesLaw.{OwnFilesLaw};
 ghost use Rattle.check_laws.specs.examples.SomeFiles.{sink_of, source_of, two_sinks};
 

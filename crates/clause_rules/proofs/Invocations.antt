@@ -20,7 +20,7 @@ use Rattle.language_model.specs.Checking.{clauses_checked, invocation_checked, o
 use Rattle.language_model.proofs.parts.Checking.{body_checked}
 use Rattle.language_model.specs.parts.Checking.{outputs_checked, ports_checked, ports_of, surroundings}
 use Rattle.language_model.specs.FunctionTyping.{unit_scope}
-use Rattle.language_model.specs.DollarTargets.{composite_of, followed}
+use Rattle.language_model.specs.DollarTargets.{composite_of, expression_meant}
 use Rattle.language_model.specs.Parameters.{Tables, table_at}
 use Rattle.language_model.specs.StreamTypes.{Attributes, Body, body_at, outputs_attributes, passed, stream_attributes, output_heads, ports_attributes}
 use Rattle.language_model.specs.TypeNames.{Types, composite_types}
@@ -110,7 +110,7 @@ module _ (unit : List Definition) (g : Graph) (s : Scope) (op : Op) (b : Body) (
   abbrev behind : PortTypes → Found CheckedClauses
   behind types =
       let own = record s { ports = ports_of i.inputs types.ins } in
-      clauses_checked op (record { scope = own; follow = followed unit g.expansions b.number }) (surroundings unit b i own types.outs) i.clauses
+      clauses_checked op (record { scope = own; follow = expression_meant unit g.expansions b.number }) (surroundings unit b i own types.outs) i.clauses
 
   unrolled : (types : PortTypes) → ports_checked op i ≡ passed → port_types unit g b op i ≡ Ok types → invocation_in unit g s op b i ≡ behind types
   unrolled types passes typed = ap (λ o. after o (λ u. after (port_types unit g b op i) behind)) passes ∙ ap (λ o. after o behind) typed
@@ -118,7 +118,7 @@ module _ (unit : List Definition) (g : Graph) (s : Scope) (op : Op) (b : Body) (
   pub invocation_is : (types : PortTypes) (ports outs : List Port) (follow : Expr → Option Expr) (meant : Types)
       → ports_checked op i ≡ passed → port_types unit g b op i ≡ Ok types → length op.outs ≡ length i.outputs
       → ports ≡ named (λ q. port_name q) i.inputs types.ins → outs ≡ named (λ o. o.name.what) i.outputs types.outs
-      → follow ≡ followed unit g.expansions b.number → meant ≡ composite_types unit b.composite
+      → follow ≡ expression_meant unit g.expansions b.number → meant ≡ composite_types unit b.composite
       → invocation_in unit g s op b i
       ≡ clauses_checked op (record { scope = record s { ports = ports }; follow = follow })
       (record { types = meant; scope = record s { ports = ports }; outputs = map (λ p. p.name) outs; schemas = map (λ p. p.schema) outs }) i.clauses

@@ -1,5 +1,5 @@
--- What the words of the command line ask for. The first word is the command. After it come one file name and the options
--- of the command, in any order, each option at most once and some of them always. Other words are no request.
+-- What the words of the command line ask for. The first word is the command. After it come one file name and the
+-- options of the command, in any order, each option at most once and some of them always. Other words are no request.
 use Rattle.std.specs.Prelude.{ℕ, Bool, List, [], ◌∷◌, unwrap_or, codes, Option, Some, None, option_and_then, if◌then◌else◌}
 use Rattle.std.specs.List.{list_all}
 use Rattle.std.specs.Option.{option_map, option_to_list}
@@ -49,20 +49,19 @@ request_with C.Run given program =
     (counts given)
 request_with C.Replay given program = option_map (Replay program) (required (other_than program) (codes "arrivals") given)
 request_with C.Simulate given program =
-    simulate_of
-    program
+    simulate_of program
     (required (number_within 1 16) (codes "width") given)
     (required (number_within 0 2147483647) (codes "schedule") given)
     (optional (number_within 1 1000000000) (codes "steps") given)
 request_with C.Make given name =
-    make_of
-    name
+    make_of name
     (required (number_within 0 10000000) (codes "rows") given)
     (required (number_within 0 2147483647) (codes "start") given)
 
 -- each argument is the one file name or an option of the command
 abbrev pub request_given : Command → List Argument → Option Request
-request_given command given = if list_all (λ argument. is_of command argument) given then option_and_then (request_with command given) (only_file given) else None
+request_given command given =
+    if list_all (λ argument. is_of command argument) given then option_and_then (request_with command given) (only_file given) else None
 
 -- the first word is the command, and the others are its arguments
 abbrev pub requested : List (List ℕ) → Option Request

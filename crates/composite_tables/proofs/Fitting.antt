@@ -9,7 +9,8 @@ use Rattle.spl_tree.specs.declared.unit.Composite.{Composite}
 use Rattle.spl_tree.specs.declared.unit.Parameter.{Parameter}
 use Rattle.language_model.specs.Composites.{is_empty}
 use Rattle.language_model.specs.Declarations.{Name, is_same, repeated_after}
-use Rattle.language_model.specs.Invoking.{is_among, fit_parameters}
+use Rattle.language_model.specs.Invoking.{fit_parameters}
+use Rattle.language_model.specs.Names.{is_named}
 use Rattle.language_model.specs.parts.Invoking.{is_argument}
 use Rattle.language_model.proofs.parts.Invoking.{has_value}
 use Rattle.composite_tables.specs.steps.Arguments.{argument_names, fit_once}
@@ -42,11 +43,11 @@ module _ (c : Composite) (before : List Name) (a : Parameter) (rest : List Param
 
 -- the names are the same
 pub record Stand (before : List Name) (names : List (List ℕ)) : Type 0 where
-  pub among : (q : List ℕ) → list_any (λ m. bytes_eq m.what q) before ≡ is_among q names
+  pub among : (q : List ℕ) → list_any (λ m. bytes_eq m.what q) before ≡ is_named names q
 
-among_last : (q n : List ℕ) (names : List (List ℕ)) → (bytes_eq n q || is_among q names) ≡ is_among q (names ++ n ∷ [])
+among_last : (q n : List ℕ) (names : List (List ℕ)) → (bytes_eq n q || is_named names q) ≡ is_named (names ++ n ∷ []) q
 among_last q n [] = refl
-among_last q n (m ∷ names) = swap (bytes_eq n q) (bytes_eq m q) (is_among q names) ∙ ap (λ b. bytes_eq m q || b) (among_last q n names)
+among_last q n (m ∷ names) = swap (bytes_eq n q) (bytes_eq m q) (is_named names q) ∙ ap (λ b. bytes_eq m q || b) (among_last q n names)
   where
     swap : (a b d : Bool) → (a || (b || d)) ≡ (b || (a || d))
     swap true true d = refl
@@ -65,18 +66,18 @@ module _ (arguments : List Parameter) (i : ℕ) (a : Parameter) (within : i < le
   pub stand_at : (before : List Name) → Stand before (argument_names (take i arguments)) → Stand (a.name ∷ before) (argument_names (take (i + 1) arguments))
   stand_at before stand = record {
     among = λ q.
-        ap (λ b. bytes_eq a.name.what q || b) (stand.among q) ∙ among_last q a.name.what (argument_names (take i arguments)) ∙ ap (is_among q) names_at;
+        ap (λ b. bytes_eq a.name.what q || b) (stand.among q) ∙ among_last q a.name.what (argument_names (take i arguments)) ∙ ap (λ n. is_named n q) names_at;
   }
 
 -- ---- parameters
 
-any_name : (q : List ℕ) (arguments : List Parameter) → is_among q (argument_names arguments) ≡ list_any (λ a. bytes_eq a.name.what q) arguments
+any_name : (q : List ℕ) (arguments : List Parameter) → is_named (argument_names arguments) q ≡ list_any (λ a. bytes_eq a.name.what q) arguments
 any_name q [] = refl
 any_name q (a ∷ arguments) = ap (λ b. bytes_eq a.name.what q || b) (any_name q arguments)
 
 -- where the arguments fit, what is left is whether each parameter has a value
 pub parameters_left : (c : Composite) (arguments : List Parameter) (valued : Bool)
-    → valued ≡ list_all (λ p. is_some p.default || is_among p.name.what (argument_names arguments)) c.parameters
+    → valued ≡ list_all (λ p. is_some p.default || is_named (argument_names arguments) p.name.what) c.parameters
     → fit_once c arguments ≡ true → valued ≡ fit_parameters c arguments
 parameters_left c arguments valued e fit =
     e ∙ (λ i. list_all (λ p. is_some p.default || any_name p.name.what arguments i) c.parameters)

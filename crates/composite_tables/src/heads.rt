@@ -1,7 +1,8 @@
 //! Whether an invocation fits the head of the composite that it invokes.
 ghost use Rattle.std.specs.Prelude.{◌≡◌, ◌&&◌, ◌||◌, List, [], ℕ, IfOk, is_some};
 ghost use Rattle.std.specs.List.{list_all};
-ghost use Rattle.language_model.specs.Invoking.{is_among, stream_names, fit_parameters, fits_head};
+ghost use Rattle.language_model.specs.Invoking.{stream_names, fit_parameters, fits_head};
+ghost use Rattle.language_model.specs.Names.{is_named};
 ghost use Rattle.language_model.specs.parts.Invoking.{has_arguments_alone};
 ghost use Rattle.program_tables.specs.Names.{HoldsNames};
 ghost use Rattle.composite_tables.specs.steps.Arguments.{FitArguments};
@@ -34,7 +35,7 @@ fn fit_arguments<'u>(
 
 /// Whether each parameter has a default or is given.
 fn have_values(parameters: &[CompositeParameter], given: &Names<'_>) -> bool
-    ensures { (names : List (List ℕ)) → HoldsNames given.now names → result ≡ list_all (λ p. is_some p.default || is_among p.name.what names) parameters.now }
+    ensures { (names : List (List ℕ)) → HoldsNames given.now names → result ≡ list_all (λ p. is_some p.default || is_named names p.name.what) parameters.now }
 {
     for parameter in parameters {
         if parameter.default.is_none() && !given.has(parameter.name.what.as_slice()) {
@@ -62,7 +63,7 @@ fn fit_parameters(
 
 /// Whether a composite makes each output of its head.
 fn makes_outputs(head: &Scope<'_>) -> bool
-    ensures { result ≡ list_all (λ p. is_among p.name.what (stream_names head.now.composite.now)) head.now.composite.now.outputs }
+    ensures { result ≡ list_all (λ p. is_named (stream_names head.now.composite.now) p.name.what) head.now.composite.now.outputs }
 {
     let outputs = head.composite.outputs.as_slice();
     outputs

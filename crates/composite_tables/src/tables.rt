@@ -7,7 +7,8 @@ ghost use Rattle.composite_tables.specs.Names.{composite_names};
 ghost use Rattle.language_model.specs.Composites.{composites, composite_named};
 ghost use Rattle.language_model.specs.Expansion.{place_of};
 ghost use Rattle.language_model.specs.Scopes.{at_place};
-ghost use Rattle.language_model.specs.Invoking.{is_among, is_parameter, stream_names, input_names};
+ghost use Rattle.language_model.specs.Invoking.{is_parameter, stream_names, input_names};
+ghost use Rattle.language_model.specs.Names.{is_named};
 ghost use Rattle.language_model.specs.parts.Invoking.{is_readable};
 
 use program_tables::{Names, names_of, names_of_streams};
@@ -44,7 +45,7 @@ impl<'u> Scope<'u> {
     }
 
     pub(crate) fn makes(&self, name: &[u8]) -> bool
-        ensures { result ≡ is_among name.now (stream_names self.now.composite.now) }
+        ensures { result ≡ is_named (stream_names self.now.composite.now) name.now }
     {
         self.streams.has(name)
     }

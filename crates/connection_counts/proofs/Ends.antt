@@ -6,7 +6,7 @@ use Rattle.spl_value.specs.declared.item.Item.TheVariants as I
 use Rattle.stream_model.specs.Stream.{Event, came}
 use Rattle.stream_model.specs.Operators.{Operator, ports}
 use Rattle.stream_model.specs.parts.Operators.{port_at}
-use Rattle.stream_model.specs.PortEvents.{is_last, is_over, is_waiting}
+use Rattle.stream_model.specs.PortEvents.{ends_all, is_over, is_waiting}
 use Rattle.connection_counts.specs.Counting.{CountsOpen, open_at, open_from, open_in}
 use Rattle.connection_counts.proofs.Counting.{none_open, one_fewer}
 use Rattle.spl_value.proofs.Lists.{get_set_same, get_within}
@@ -98,10 +98,10 @@ pub waits_not : (op : Operator) (h : List Event) (i : ℕ) → open_at op (port_
 waits_not op h i e = ap not (none_open (λ q. q == port_at (ports op) i) (ports op) 0 (came i I.Final ∷ h) ∙ eq-eqb (open_at op (port_at (ports op) i) (came i I.Final ∷ h)) 0 e)
 
 -- and an operator ends where it has none
-pub last_by : (op : Operator) (h : List Event) (i : ℕ) → open_in op (came i I.Final ∷ h) ≡ 0 → is_last op h (came i I.Final) ≡ true
+pub last_by : (op : Operator) (h : List Event) (i : ℕ) → open_in op (came i I.Final ∷ h) ≡ 0 → ends_all op h (came i I.Final) ≡ true
 last_by op h i e = none_open (λ q. true) (ports op) 0 (came i I.Final ∷ h) ∙ eq-eqb (open_in op (came i I.Final ∷ h)) 0 e
 
-pub last_not : (op : Operator) (h : List Event) (i : ℕ) → 0 < open_in op (came i I.Final ∷ h) → is_last op h (came i I.Final) ≡ false
+pub last_not : (op : Operator) (h : List Event) (i : ℕ) → 0 < open_in op (came i I.Final ∷ h) → ends_all op h (came i I.Final) ≡ false
 last_not op h i some = none_open (λ q. true) (ports op) 0 (came i I.Final ∷ h) ∙ ne_eqb (open_in op (came i I.Final ∷ h)) 0 (λ z. omega (arith, some, z))
 
 -- the count of an input's port, as it is read

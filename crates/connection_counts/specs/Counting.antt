@@ -4,7 +4,7 @@ use Rattle.std.specs.Prelude.{◌≡◌, ◌<◌, ℕ, Bool, true, false, ◌&&�
 use Rattle.spl_value.specs.declared.item.Item.TheVariants as I
 use Rattle.stream_model.specs.Stream.{Event, came}
 use Rattle.stream_model.specs.Operators.{Operator, ports}
-use Rattle.stream_model.specs.PortEvents.{is_last, is_over, is_waiting}
+use Rattle.stream_model.specs.PortEvents.{ends_all, is_over, is_waiting}
 use Rattle.connection_counts.specs.declared.connections.Closing.{Closing}
 use Rattle.connection_counts.specs.declared.connections.Closing.TheVariants as C
 
@@ -30,5 +30,5 @@ pub record CountsOpen (op : Operator) (h : List Event) (own : List ℕ) (open_of
 -- what a final marker on an input ends
 abbrev pub Closes : Operator → List Event → ℕ → Closing → Type 0
 Closes op h i C.Waiting = is_waiting op h (came i I.Final) ≡ true
-Closes op h i C.Port = (is_waiting op h (came i I.Final) ≡ false) × (is_last op h (came i I.Final) ≡ false)
-Closes op h i C.Operator = (is_waiting op h (came i I.Final) ≡ false) × (is_last op h (came i I.Final) ≡ true)
+Closes op h i C.Port = (is_waiting op h (came i I.Final) ≡ false) × (ends_all op h (came i I.Final) ≡ false)
+Closes op h i C.Operator = (is_waiting op h (came i I.Final) ≡ false) × (ends_all op h (came i I.Final) ≡ true)

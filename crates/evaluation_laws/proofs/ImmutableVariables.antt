@@ -1,5 +1,5 @@
 -- Bodies leave variables that aren't mutable as they are.
-use Rattle.std.specs.Prelude.{◌≡◌, ◌<◌, ◌≤◌, ◌==◌, ◌&&◌, ℕ, zero, suc, Bool, true, false, not, List, [], ◌∷◌, map, length, take, slice_get, None, Some}
+use Rattle.std.specs.Prelude.{◌≡◌, ◌<◌, ◌≤◌, ◌==◌, ◌&&◌, ℕ, zero, suc, Bool, true, false, not, List, [], ◌∷◌, map, length, take, slice_get, Option, None, Some}
 use Rattle.std.specs.Cmp.Derive.{both_true}
 use Rattle.std.proofs.Common.{refl, sym, ap, subst, ◌∙◌, arith}
 use Rattle.std.proofs.lemmas.Bool.{eq-eqb, eqb-true}
@@ -45,14 +45,14 @@ module _ (purpose : Purpose) (i : ℕ) where
   abbrev is_other : ℕ → Bool
   is_other j = not (j == i)
 
-  abbrev any_code : Code Slot → Bool
-  any_code code = true
+  abbrev any_submit : ℕ → Option (Code Slot) → Bool
+  any_submit port code = true
 
   abbrev passes : Statement → Bool
-  passes = statement_passes is_other any_code
+  passes = statement_passes is_other any_submit
 
-  at : (x : Statement) (form : Statement-F Statement) → out-Statement x ≡ form → passes x ≡ level_passes is_other any_code (map-Statement Statement Bool passes form)
-  at x form p = fold_out-Statement Bool (level_passes is_other any_code) x ∙ ap (λ y. level_passes is_other any_code (map-Statement Statement Bool passes y)) p
+  at : (x : Statement) (form : Statement-F Statement) → out-Statement x ≡ form → passes x ≡ level_passes is_other any_submit (map-Statement Statement Bool passes form)
+  at x form p = fold_out-Statement Bool (level_passes is_other any_submit) x ∙ ap (λ y. level_passes is_other any_submit (map-Statement Statement Bool passes y)) p
 
   abbrev passing_arm : Code Slot × List Statement → Code Slot × List Bool
   passing_arm arm = (arm.0, map passes arm.1)
@@ -106,7 +106,7 @@ module _ (purpose : Purpose) (i : ℕ) where
     statement_pass _ _ _ _ (B.evaluate l scope call xs t f) is = at (T.Evaluate _) (S.Evaluate _) (T.outs-Evaluate _)
     statement_pass _ _ _ _ (B.call l scope j xs f there args) is = at (T.Call j xs) (S.Call j xs) (T.outs-Call j xs)
     statement_pass _ _ _ _ (B.if_else l scope arms other h k) is =
-        at (T.If arms other) (S.If arms other) (T.outs-If arms other) ∙ ap (λ bs. arms_pass bs && row_passes is_other any_code other) (arms_mapped arms other)
+        at (T.If arms other) (S.If arms other) (T.outs-If arms other) ∙ ap (λ bs. arms_pass bs && row_passes is_other any_submit other) (arms_mapped arms other)
         ∙ both_true (all_arms_pass l scope arms h is) (row_pass l scope other k is)
     statement_pass _ _ _ _ (B.while l scope x row f h) is = at (T.While x row) (S.While x row) (T.outs-While x row) ∙ row_pass true scope row h is
     statement_pass _ _ _ _ (B.for_each l scope x row t v f over fixed h) is =
@@ -117,7 +117,7 @@ module _ (purpose : Purpose) (i : ℕ) where
     statement_pass _ _ _ _ (B.submit l scope port x schema there f) is = at (T.Submit port x) (S.Submit port x) (T.outs-Submit port x)
     statement_pass _ _ _ _ (B.submit_window l scope port schema there) is = at (T.SubmitWindow port) (S.SubmitWindow port) (T.outs-SubmitWindow port)
 
-    row_pass : (l : Bool) (scope : Scope) (row : List Statement) → RowFits purpose l scope row → Immutable i scope → row_passes is_other any_code row ≡ true
+    row_pass : (l : Bool) (scope : Scope) (row : List Statement) → RowFits purpose l scope row → Immutable i scope → row_passes is_other any_submit row ≡ true
     row_pass _ _ _ (B.no_statements l scope) is = refl
     row_pass _ _ _ (B.statement l scope next x row h k) is =
         both_true (statement_pass l scope next x h is) (row_pass l next row k (still_immutable l scope next x h is))
@@ -142,13 +142,13 @@ module _ (bodies : Bodies) (i : ℕ) (v : Value) where
   different : (j : ℕ) → not (j == i) ≡ true → j ≡ i → ⊥
   different j h e = let same : (j == i) ≡ true = eq-eqb j i e in let no : false ≡ true = sym (ap not same) ∙ h in cc
 
-  holds_kept : IsKept bodies (λ j. not (j == i)) (λ code. true) Holds
+  holds_kept : IsKept bodies (λ j. not (j == i)) (λ port code. true) Holds
   holds_kept = record {
     change = λ s j new h k. set_elsewhere s.env.vars j i new (different j h) ∙ k;
     declare = λ s new k. append_front s.env.vars (new ∷ []) i v k;
     end = λ s t k h. get_in_take (length s.env.vars) t.env.vars i (slice_get_within s.env.vars i v k) ∙ h;
     tuple = λ s port code turns left u us h e is k. k;
-    window = λ s port k. k;
+    window = λ s port e k. k;
   }
 
 pub immutable_law : ImmutableLaw
@@ -157,7 +157,7 @@ immutable_law functions purpose l scope row env turns rest left h enough e i x t
     let before = get_below env.vars i (omega arith) in
     let bodies = bodies_of functions turns in
     let passes_all = row_pass purpose i l scope row h (record { variable = x; there = there; fixed = fixed }) in
-    let kept = body_keeps bodies (λ j. not (j == i)) (λ code. true) (Holds bodies i before.0) (holds_kept bodies i before.0) row env turns passes_all before.1 in
+    let kept = body_keeps bodies (λ j. not (j == i)) (λ port code. true) (Holds bodies i before.0) (holds_kept bodies i before.0) row env turns passes_all before.1 in
     let by : LeftBy (Holds bodies i before.0) left = subst (Only (LeftBy (Holds bodies i before.0))) e kept in
     ap (λ vars. slice_get vars i) (sym by.3) ∙ by.1 ∙ sym before.1
 

@@ -17,7 +17,8 @@ use Rattle.language_model.specs.Declarations.{first_of}
 use Rattle.language_model.specs.Expansion.{Made, Inlined, Opened, Expands, after, operation, inlined, opened_in, expanded_target, expanded_invocation, expanded_graph, expanded, main_body, expanded_main}
 use Rattle.language_model.proofs.parts.Expansion.{with_operation}
 use Rattle.language_model.specs.parts.Expansion.{with_expansion, if_grown}
-use Rattle.language_model.specs.Invoking.{Target, Operator, Body, Nothing, target_of, undeclared, fits_head, is_among, stream_names}
+use Rattle.language_model.specs.Invoking.{Target, Operator, Body, Nothing, target_of, undeclared, fits_head, stream_names}
+use Rattle.language_model.specs.Names.{is_named}
 use Rattle.language_model.specs.Recursion.{HasNoRecursion, calls_among, composite_callers}
 use Rattle.language_model.specs.Scopes.{At}
 use Rattle.language_model.proofs.FoundAnswers.{after_gives, same_Ok}
@@ -64,10 +65,10 @@ no_streams (i ∷ is) none = no_outputs i.outputs (none 0 i refl) (no_streams is
     no_outputs [] e rest = rest
     no_outputs (o ∷ os) e rest = absurd (omega arith)
 
-no_head_outputs : (c : Composite) (i : Invocation) (ps : List HeadPort) → ((k : ℕ) (p : HeadPort) → slice_get ps k ≡ Some p → is_among p.name.what (stream_names c) ≡ true)
+no_head_outputs : (c : Composite) (i : Invocation) (ps : List HeadPort) → ((k : ℕ) (p : HeadPort) → slice_get ps k ≡ Some p → is_named (stream_names c) p.name.what ≡ true)
     → stream_names c ≡ [] → length ps ≡ 0
 no_head_outputs c i [] made none = refl
-no_head_outputs c i (p ∷ ps) made none = absurd (let h : is_among p.name.what [] ≡ true = ap (is_among p.name.what) (sym none) ∙ made 0 p refl in cc)
+no_head_outputs c i (p ∷ ps) made none = absurd (let h : is_named [] p.name.what ≡ true = ap (λ n. is_named n p.name.what) (sym none) ∙ made 0 p refl in cc)
 
 no_outputs_left : (c : Composite) (i : Invocation) → fits_head c i ≡ true → ((n : ℕ) (j : Invocation) → slice_get c.graph n ≡ Some j → length j.outputs ≡ 0) → length i.outputs ≡ 0
 no_outputs_left c i fits none = outputs_fit c i fits ∙ no_head_outputs c i c.outputs (output_made c i fits) (no_streams c.graph none)

@@ -11,7 +11,8 @@ use Rattle.spl_tree.specs.declared.unit.Invocation.{Invocation}
 use Rattle.language_model.specs.Declarations.{first_of}
 use Rattle.language_model.specs.Expansion.{Expanded, Made}
 use Rattle.language_model.proofs.parts.Expansion.{if_declared}
-use Rattle.language_model.specs.Invoking.{target_of, is_nothing, undeclared, is_among, stream_names, fits_head}
+use Rattle.language_model.specs.Invoking.{target_of, is_nothing, undeclared, stream_names, fits_head}
+use Rattle.language_model.specs.Names.{is_named}
 use Rattle.language_model.specs.parts.Invoking.{is_readable}
 use Rattle.expansion_laws.proofs.Growing.{AreReadable, IsReadable}
 use Rattle.spl_value.proofs.Bools.{and_parts}
@@ -30,8 +31,8 @@ module _ (c : Composite) (i : Invocation) (fits : fits_head c i ≡ true) where
   pub inputs_fit : length i.inputs ≡ length c.inputs
   inputs_fit = eqb-true (length i.inputs) (length c.inputs) (and_parts _ _ (and_parts _ _ (and_parts _ _ (and_parts _ _ fits).0).0).0).1
 
-  pub output_made : (k : ℕ) (p : HeadPort) → slice_get c.outputs k ≡ Some p → is_among p.name.what (stream_names c) ≡ true
-  output_made k p at = all_pass (λ p. is_among p.name.what (stream_names c)) c.outputs k p (and_parts _ _ fits).1 at
+  pub output_made : (k : ℕ) (p : HeadPort) → slice_get c.outputs k ≡ Some p → is_named (stream_names c) p.name.what ≡ true
+  output_made k p at = all_pass (λ p. is_named (stream_names c) p.name.what) c.outputs k p (and_parts _ _ fits).1 at
 
 -- ---- what is declared
 

@@ -21,7 +21,8 @@ use Rattle.language_model.specs.Declarations.{declared_twice}
 use Rattle.language_model.specs.Expansion.{Made, Inlined, source, place_of, names_of_port, port_names, input_sources, taken_in}
 use Rattle.language_model.proofs.parts.Expansion.{own_or_input}
 use Rattle.language_model.proofs.parts.Flat.{graph_of}
-use Rattle.language_model.specs.Invoking.{Operator, Body, target_of, is_among, stream_names, input_names}
+use Rattle.language_model.specs.Invoking.{Operator, Body, target_of, stream_names, input_names}
+use Rattle.language_model.specs.Names.{is_named}
 use Rattle.language_model.specs.parts.Invoking.{is_readable}
 use Rattle.language_model.specs.Numbering.{stream_of, streams_of}
 use Rattle.language_model.proofs.parts.Numbering.{op_of, expansion_of}
@@ -52,9 +53,9 @@ not_first : (a b : Bool) → a || b ≡ true → a ≡ false → b ≡ true
 not_first true b e f = absurd (let bad : true ≡ false = f in cc)
 not_first false b e f = e
 
-no_place : (name : List ℕ) (names : List (List ℕ)) → place_of name names ≡ None → is_among name names ≡ false
+no_place : (name : List ℕ) (names : List (List ℕ)) → place_of name names ≡ None → is_named names name ≡ false
 no_place name names e =
-    elim (is_among name names) as (λ b. is_among name names ≡ b → b ≡ false) [
+    elim (is_named names name) as (λ b. is_named names name ≡ b → b ≡ false) [
       | true ↦ λ among. (let k = among_has name names among in absurd (let bad : None ≡ Some k.0 = sym e ∙ k.1 in cc))
       | false ↦ λ among. refl
     ] refl
@@ -127,7 +128,7 @@ module _ (unit : List Definition) (made : Made) (topo : List ℕ) (h : Holds uni
     by_place : is_readable e.composite.what name ≡ true → (o : Option ℕ) → place_of name (stream_names e.composite.what) ≡ o → StandsFor unit graph k name (streams_of made (own o))
     by_place readable (Some place) is = by_stream place is
     by_place readable None is =
-        let among = not_first (is_among name (stream_names e.composite.what)) (is_among name (input_names e.composite.what)) readable (no_place name (stream_names e.composite.what) is) in
+        let among = not_first (is_named (stream_names e.composite.what) name) (is_named (input_names e.composite.what) name) readable (no_place name (stream_names e.composite.what) is) in
         let port = among_has name (input_names e.composite.what) among in
         let p = named_head name e.composite.what.inputs port.0 (place_has name (input_names e.composite.what) port.0 port.1) in
         subst (λ o. StandsFor unit graph k name (streams_of made (option_map_or (input_sources (taken_in count bodies) bodies e.site) o []))) (sym port.1)

@@ -17,7 +17,8 @@ use Rattle.spl_tree.specs.declared.unit.Invocation.{Invocation}
 use Rattle.spl_tree.specs.declared.unit.OutputStream.{OutputStream}
 use Rattle.language_model.specs.Expansion.{Made, Inlined, source, place_of}
 use Rattle.language_model.proofs.parts.Flat.{graph_of}
-use Rattle.language_model.specs.Invoking.{stream_names, is_among}
+use Rattle.language_model.specs.Invoking.{stream_names}
+use Rattle.language_model.specs.Names.{is_named}
 use Rattle.language_model.specs.Numbering.{numbers_from, first_stream, Output, outputs_from, is_site, site_at, output_place, operator_or_expansion, stream_of}
 use Rattle.language_model.specs.parts.Numbering.{graph_outputs}
 use Rattle.language_model.proofs.parts.Numbering.{operator_at, expansion_at, op_of, expansion_of}
@@ -45,16 +46,16 @@ place_has name names k e = by (first_from (λ n. bytes_eq n name) 0 names) (firs
         let same : k ≡ s.0 = omega (arith, place, there) in
         ap (slice_get names) same ∙ s.2 ∙ ap Some ((bytes_decides a.what name).0 s.3)
 
-found_from : (name : List ℕ) (i : ℕ) (names : List (List ℕ)) → is_among name names ≡ true → (k : ℕ) × (option_map (λ (n : At (List ℕ)). n.place) (first_from (λ n. bytes_eq n name) i names) ≡ Some k)
+found_from : (name : List ℕ) (i : ℕ) (names : List (List ℕ)) → is_named names name ≡ true → (k : ℕ) × (option_map (λ (n : At (List ℕ)). n.place) (first_from (λ n. bytes_eq n name) i names) ≡ Some k)
 found_from name i [] e = absurd cc
 found_from name i (n ∷ names) e =
     elim (bytes_eq n name)
-    as (λ b. (b || is_among name names) ≡ true → (k : ℕ) × (option_map (λ (n : At (List ℕ)). n.place) (if b then Some (at_place i n) else first_from (λ n. bytes_eq n name) (suc i) names) ≡ Some k)) [
+    as (λ b. (b || is_named names name) ≡ true → (k : ℕ) × (option_map (λ (n : At (List ℕ)). n.place) (if b then Some (at_place i n) else first_from (λ n. bytes_eq n name) (suc i) names) ≡ Some k)) [
       | true ↦ λ h. (i, refl)
       | false ↦ λ h. found_from name (suc i) names h
     ] e
 
-pub among_has : (name : List ℕ) (names : List (List ℕ)) → is_among name names ≡ true → (k : ℕ) × (place_of name names ≡ Some k)
+pub among_has : (name : List ℕ) (names : List (List ℕ)) → is_named names name ≡ true → (k : ℕ) × (place_of name names ≡ Some k)
 among_has name names e = found_from name 0 names e
 
 -- ---- the outputs of a graph

@@ -22,7 +22,7 @@ use Rattle.language_model.specs.parts.Operators.{truth_of}
 use Rattle.language_model.specs.Statements.{level_tuple}
 use Rattle.stream_model.specs.Stream.{Event}
 use Rattle.stream_model.specs.Operators.{Operator}
-use Rattle.stream_model.specs.PortEvents.{items_of}
+use Rattle.stream_model.specs.PortEvents.{port_items}
 use Rattle.stream_model.specs.Bodies.{Makes, at_tuple, by_item, holds, made_where, most_turns, passes, tuple_by, values_at}
 use Rattle.stream_model.specs.Customs.{handler, item_leaves, left_by, marker_env, state}
 use Rattle.stream_model.specs.parts.Customs.{tuple_env}
@@ -113,6 +113,6 @@ own_makes (A.Split index) op h port x =
 own_makes (A.Union places) op h port x = own_item _ [] (λ vs. own_need (slice_get places port) _ (λ is. own_need (values_at vs is) _ (λ us. tt))) x
 own_makes (A.Custom handlers) op h port x =
     own_followed (item_leaves op.functions handlers (state op.functions handlers h) port x) _ (own_leaves op.functions handlers (state op.functions handlers h) port x) (λ left turns. tt)
-own_makes (A.Aggregate window partition group collects) op h port x = own_aggregate op.functions window partition group collects (items_of 0 h) x
+own_makes (A.Aggregate window partition group collects) op h port x = own_aggregate op.functions window partition group collects (port_items 0 h) x
 own_makes (A.Join left right condition made) op h port x =
-    own_item _ [] (λ t. own_pairs op.functions condition made (pairs_at left right (items_of 0 h) (items_of 1 h) port t) most_turns) x
+    own_item _ [] (λ t. own_pairs op.functions condition made (pairs_at left right (port_items 0 h) (port_items 1 h) port t) most_turns) x

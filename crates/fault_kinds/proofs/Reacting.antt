@@ -8,10 +8,11 @@ use Rattle.spl_value.specs.declared.item.Item.{Item}
 use Rattle.spl_value.specs.declared.item.Item.TheVariants as I
 use Rattle.language_model.specs.declared.outs.Output.{Output}
 use Rattle.language_model.specs.Outcomes.{Done, Faulted, Stuck}
-use Rattle.stream_model.specs.Stream.{Event, closes, is_fault}
+use Rattle.stream_model.specs.Stream.{Event, is_fault}
+use Rattle.spl_value.specs.Numbered.{closes}
 use Rattle.stream_model.specs.Operators.{Operator, ports}
 use Rattle.stream_model.specs.parts.Operators.{port_at}
-use Rattle.stream_model.specs.PortEvents.{is_last, is_waiting, port_events}
+use Rattle.stream_model.specs.PortEvents.{ends_all, is_waiting, port_events}
 use Rattle.stream_model.specs.Bodies.{Makes, on_each, output}
 use Rattle.stream_model.specs.React.{Reaction, Gives, Faults, answer, answered, body, ended, ended_by, makes_by, own_fault, react}
 use Rattle.stream_model.specs.Fitting.{MakesFit, ReactsFit}
@@ -97,13 +98,13 @@ module _ (op : Operator) (h : List Event) (e : Event) (may : MayCome op h e) whe
   react_own : is_fault e.item ≡ false → OwnFaults op (react op h e)
   react_own none = go (is_fault e.item) (is_waiting op h e) none
     where
-      go : (f w : Bool) → f ≡ false → OwnFaults op (if f then on_each (length op.outs) e.item else if w then [] else answered op (is_last op h e) (body op h e))
+      go : (f w : Bool) → f ≡ false → OwnFaults op (if f then on_each (length op.outs) e.item else if w then [] else answered op (ends_all op h e) (body op h e))
       go true w q = absurd (let clash : true ≡ false = q in cc)
       go false true q = none_there op
-      go false false q = answered_own (is_last op h e)
+      go false false q = answered_own (ends_all op h e)
 
   end_own : is_fault e.item ≡ false → (f : Fault) → ended op h e ≡ Some (I.Bad f) → IsOwn op f
-  end_own none f = go (is_fault e.item) (is_waiting op h e) (is_last op h e) (body op h e) none refl
+  end_own none f = go (is_fault e.item) (is_waiting op h e) (ends_all op h e) (body op h e) none refl
     where
       go : (x w last : Bool) (a : Reaction) → x ≡ false → body op h e ≡ a → (if x then Some e.item else if w then None else ended_by op last a) ≡ Some (I.Bad f) → IsOwn op f
       go true w last a q same r = absurd (let clash : true ≡ false = q in cc)

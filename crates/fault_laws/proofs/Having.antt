@@ -15,17 +15,18 @@ use Rattle.stream_model.specs.parts.Ends.{operator_fault}
 use Rattle.stream_model.specs.Fitting.{EventsFit, IsFitting}
 use Rattle.stream_model.specs.Operators.{Operator}
 use Rattle.stream_model.specs.PathLaws.{fault_by}
-use Rattle.stream_model.specs.PortEvents.{is_last, is_waiting}
+use Rattle.stream_model.specs.PortEvents.{ends_all, is_waiting}
 use Rattle.stream_model.specs.React.{Reaction, Gives, Faults, answered, body, ended, own_fault, react}
 use Rattle.stream_model.specs.Stages.{gives_all, next, on_port, out, start}
-use Rattle.stream_model.specs.Stream.{Event, closes, is_fault}
+use Rattle.stream_model.specs.Stream.{Event, is_fault}
+use Rattle.spl_value.specs.Numbered.{closes}
 use Rattle.stream_model.proofs.Closings.{end_item_law}
 use Rattle.stream_model.proofs.KindBodies.{body_law}
 use Rattle.fault_kinds.specs.Kinds.{is_evaluation_kind}
 use Rattle.fault_kinds.specs.OperatorKinds.{MayCome}
 use Rattle.fault_kinds.proofs.Reacting.{body_kinds}
-use Rattle.fault_laws.proofs.Coming.{OfEach}
-use Rattle.fault_laws.proofs.Fitting.{Went, begun, gone_on}
+use Rattle.stream_schemas.proofs.Coming.{OfEach}
+use Rattle.stream_schemas.proofs.Fitting.{Went, begun, gone_on}
 
 module _ (P : Fault → Type 0) where
   -- where the item is a fault, that has it
@@ -119,10 +120,10 @@ module _ (P : Fault → Type 0) where
     react_has : (h : List Event) (e : Event) → Come h e → EventHas e → OutsHave (react op h e)
     react_has h e may has = go (is_fault e.item) (is_waiting op h e)
       where
-        go : (f w : Bool) → OutsHave (if f then on_each (length op.outs) e.item else if w then [] else answered op (is_last op h e) (body op h e))
+        go : (f w : Bool) → OutsHave (if f then on_each (length op.outs) e.item else if w then [] else answered op (ends_all op h e) (body op h e))
         go true w = each_has (length op.outs) e.item has
         go false true = tt
-        go false false = answered_have (is_last op h e) h e may
+        go false false = answered_have (ends_all op h e) h e may
 
     end_has : (h : List Event) (e : Event) (x : Item) → Come h e → EventHas e → ended op h e ≡ Some x → Has x
     end_has h e x may has q = elim (end_item_law op h e x q) [

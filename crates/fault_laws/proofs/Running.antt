@@ -1,8 +1,7 @@
 -- What the faults of a run have, where those of its sources' rows have it, and its operators' own faults.
-use Rattle.std.proofs.Common.{◌≡◌, ℕ, ◌==◌, Bool, true, List, [], ◌∷◌, ◌++◌, refl, sym, ap, subst, ◌∙◌, reverse, slice_get, Option, Some, None, position}
-use Rattle.std.specs.List.{AllByRecursion, cons_option, filter_map}
+use Rattle.std.proofs.Common.{◌≡◌, ℕ, ◌==◌, Bool, true, List, [], ◌∷◌, refl, sym, ap, subst, ◌∙◌, reverse, slice_get, Option, Some, None, position}
+use Rattle.std.specs.List.{AllByRecursion}
 use Rattle.std.specs.Option.{option_map_or}
-use Rattle.std.proofs.lemmas.List.{reverse-append}
 use Rattle.spl_value.specs.declared.item.Fault.{Fault}
 use Rattle.spl_value.specs.declared.item.FaultKind.{FaultKind}
 use Rattle.language_model.specs.declared.checked.CheckedClauses.{CheckedClauses}
@@ -20,34 +19,11 @@ use Rattle.stream_model.specs.Stream.{Event}
 use Rattle.stream_model.proofs.Graphs.{events_law}
 use Rattle.fault_kinds.specs.Kinds.{is_evaluation_kind}
 use Rattle.list_engine.proofs.GraphOperators.{is_numbered}
-use Rattle.fault_laws.specs.RunFaults.{SourcesFit}
-use Rattle.fault_laws.proofs.Coming.{events_each}
-use Rattle.fault_laws.proofs.Streams.{IsIn, clauses_fit, inputs_fit, streams_fit}
+use Rattle.stream_schemas.specs.Schemas.{SourcesFit}
+use Rattle.stream_schemas.proofs.Coming.{events_each}
+use Rattle.stream_schemas.proofs.Streams.{IsIn, all_in, clauses_fit, inputs_fit, streams_fit}
 use Rattle.fault_laws.proofs.Having.{AllHave, EventHas, came_have, fault_has, out_has, stream_has}
 use Rattle.list_engine.proofs.FaultNames.{first_of, unread}
-
--- ---- the operators in their order
-
-both_in : (g : Graph) (a b : List Operator) → AllByRecursion (IsIn g) a → AllByRecursion (IsIn g) b → AllByRecursion (IsIn g) (a ++ b)
-both_in g [] b h k = k
-both_in g (o ∷ a) b h k = (h.0, both_in g a b h.1 k)
-
-reverse_in : (g : Graph) (ops : List Operator) → AllByRecursion (IsIn g) ops → AllByRecursion (IsIn g) (reverse ops)
-reverse_in g [] h = tt
-reverse_in g (o ∷ ops) h =
-    subst (AllByRecursion (IsIn g)) (sym (reverse-append (o ∷ []) ops)) (both_in g (reverse ops) (o ∷ []) (reverse_in g ops h.1) (h.0, tt))
-
-numbers_in : (g : Graph) (numbers : List ℕ) → AllByRecursion (IsIn g) (filter_map (slice_get g.ops) numbers)
-numbers_in g [] = tt
-numbers_in g (n ∷ numbers) = go (slice_get g.ops n) refl (numbers_in g numbers)
-  where
-    go : (found : Option Operator) → slice_get g.ops n ≡ found → AllByRecursion (IsIn g) (filter_map (slice_get g.ops) numbers)
-        → AllByRecursion (IsIn g) (cons_option found (filter_map (slice_get g.ops) numbers))
-    go None q rest = rest
-    go (Some op) q rest = ((n, q), rest)
-
-all_in : (g : Graph) → AllByRecursion (IsIn g) (reverse (in_topo g))
-all_in g = reverse_in g (in_topo g) (numbers_in g g.topo)
 
 -- ---- the run
 

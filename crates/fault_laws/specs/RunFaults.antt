@@ -12,11 +12,11 @@ use Rattle.language_model.specs.Keeping.{Keeps}
 use Rattle.stream_model.specs.CheckedMeaning.{graph_of}
 use Rattle.stream_model.specs.Ends.{run_fault}
 use Rattle.stream_model.specs.Meaning.{Graph, Lists, Entries, Meaning, meaning}
-use Rattle.stream_model.specs.Operators.{Operator, output_attributes}
+use Rattle.stream_model.specs.Operators.{Operator}
 use Rattle.stream_model.specs.PathLaws.{fault_by}
-use Rattle.stream_model.specs.Stream.{TuplesFit}
 use Rattle.fault_kinds.specs.Kinds.{is_evaluation_kind}
 use Rattle.list_engine.specs.RunLaws.{SourcesName}
+use Rattle.stream_schemas.specs.Schemas.{SourcesFit}
 
 -- ---- a test of faults
 
@@ -36,11 +36,6 @@ OperatorsPass test g = (n : ℕ) (op : Operator) (kind : FaultKind) → slice_ge
 pub record RunPasses (test : Fault → Bool) (g : Graph) (m : Meaning) : Type 0 where
   pub streams : (s : ℕ) → FaultsPass test (m.streams s)
   pub run : (f : Fault) → run_fault g m ≡ Some f → test f ≡ true
-
--- the tuples in the rows of each source have its attributes
-abbrev pub SourcesFit : Graph → Lists → Type 0
-SourcesFit g rows = (n : ℕ) (op : Operator) (file : List ℕ) (strict : Bool) → slice_get g.ops n ≡ Some op → op.clauses ≡ A.FileSource file strict
-    → TuplesFit (output_attributes op 0) (rows n)
 
 -- a test that the faults in the rows of the sources pass, and those of evaluation of the operators, is passed by all faults of a run
 abbrev pub FaultsLaw : Type 0

@@ -11,7 +11,8 @@ use Rattle.std.proofs.lemmas.List.Elements.{All-map}
 use Rattle.std.proofs.lemmas.List.Folds.{list_any-append, list_any_at, list_any_none, list_any_more}
 use Rattle.std.proofs.lemmas.Slice.Eq.{bytes_eq-Decides}
 use Rattle.feed_pour.specs.Contents.{Told, WhereTold}
-use Rattle.file_adapters.specs.Sinks.{AreDistinct, EmptyBefore, HasOwnFile, is_among, names_of, sink_names}
+use Rattle.file_adapters.specs.Sinks.{AreDistinct, EmptyBefore, HasOwnFile, names_of, sink_names}
+use Rattle.language_model.specs.Names.{is_named}
 use Rattle.file_adapters.specs.steps.Steps.{SinksEmptied, is_file}
 use Rattle.file_adapters.specs.declared.text.TextFile.{TextFile}
 use Rattle.file_adapters.specs.declared.sinks.Sink.{Sink}
@@ -78,17 +79,17 @@ out_of_front sinks count n out = not_among (take count sinks) n (λ i d small sa
 
 -- ---- the names of sinks and of the text after them
 
-pub named : (sinks : List Sink) (n : List ℕ) → is_among (sink_names sinks) n ≡ is_file sinks n
+pub named : (sinks : List Sink) (n : List ℕ) → is_named (sink_names sinks) n ≡ is_file sinks n
 named sinks n = any_map (λ (m : List ℕ). bytes_eq m n) (λ (s : Sink). s.file) sinks
 
 -- a name that none of more names is
-pub with_text : (names : List (List ℕ)) (x n : List ℕ) → is_among (names ++ x ∷ []) n ≡ false → (is_among names n ≡ false) × (n ≢ x)
+pub with_text : (names : List (List ℕ)) (x n : List ℕ) → is_named (names ++ x ∷ []) n ≡ false → (is_named names n ≡ false) × (n ≢ x)
 with_text names x n out =
-    let p = or_parts (is_among names n) (is_among (x ∷ []) n) (sym (list_any-append (λ (m : List ℕ). bytes_eq m n) names (x ∷ [])) ∙ out) in
+    let p = or_parts (is_named names n) (is_named (x ∷ []) n) (sym (list_any-append (λ (m : List ℕ). bytes_eq m n) names (x ∷ [])) ∙ out) in
     let q = or_parts (bytes_eq x n) false p.1 in
     (p.0, λ same. from_test x n q.0 (sym same))
 
-pub outside : (sinks : List Sink) (last : Option TextFile) (n : List ℕ) → is_among (names_of sinks last) n ≡ false → is_file sinks n ≡ false
+pub outside : (sinks : List Sink) (last : Option TextFile) (n : List ℕ) → is_named (names_of sinks last) n ≡ false → is_file sinks n ≡ false
 outside sinks None n out = sym (named sinks n) ∙ out
 outside sinks (Some text) n out = sym (named sinks n) ∙ (with_text (sink_names sinks) text.file n out).0
 
@@ -120,8 +121,8 @@ emptied sinks last place old new within h =
     let same : take place (names_of sinks last) ≡ sink_names (take place sinks) = taken sinks last place within in
     record {
       empty = subst (All (λ n. new.holds n ≡ Some [])) (sym same) (All-map (λ n. new.holds n ≡ Some []) (λ (s : Sink). s.file) (take place sinks) h.empty);
-      others = λ n out. h.others n (sym (named (take place sinks) n) ∙ ap (λ (ns : List (List ℕ)). is_among ns n) (sym same) ∙ out);
-      scripts = λ n out. h.scripts n (sym (named (take place sinks) n) ∙ ap (λ (ns : List (List ℕ)). is_among ns n) (sym same) ∙ out);
+      others = λ n out. h.others n (sym (named (take place sinks) n) ∙ ap (λ (ns : List (List ℕ)). is_named ns n) (sym same) ∙ out);
+      scripts = λ n out. h.scripts n (sym (named (take place sinks) n) ∙ ap (λ (ns : List (List ℕ)). is_named ns n) (sym same) ∙ out);
     }
 
 -- ---- what is told, one change after another

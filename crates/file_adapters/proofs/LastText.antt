@@ -13,7 +13,8 @@ use Rattle.feed_pour.specs.Contents.{Created, Empties, Finished, HeldAfter, Told
 use Rattle.feed_pour.specs.declared.outside.Failed.{Failed}
 use Rattle.feed_pour.specs.declared.outside.PourAnswer.{PourAnswer}
 use Rattle.feed_pour.specs.declared.outside.PourAnswer.TheVariants as P
-use Rattle.file_adapters.specs.Sinks.{AllHold, FilesCause, FilesCounted, FilesWritten, HasOwnFile, HoldsFrontOrSame, HoldsUnlessFailed, LastHolds, SinksCount, SinksHold, TextHolds, is_among, names_of, sink_names, sink_text}
+use Rattle.file_adapters.specs.Sinks.{AllHold, FilesCause, FilesCounted, FilesWritten, HasOwnFile, HoldsFrontOrSame, HoldsUnlessUnwritten, LastHolds, SinksCount, SinksHold, TextHolds, names_of, sink_names, file_text}
+use Rattle.language_model.specs.Names.{is_named}
 use Rattle.file_adapters.specs.steps.Steps.{EndsText, IsAfter, IsDone, IsFilled, OtherFilesStay, SinksEmptied, LastCause, LastCounted, LastFinished, LastGiven, LastLeft, is_file, text_sunk}
 use Rattle.file_adapters.specs.declared.sinks.Sink.{Sink}
 use Rattle.file_adapters.specs.declared.sinks.Sunk.{Sunk}
@@ -113,15 +114,15 @@ record Finishing (sinks : List Sink) (streams : List (List Item)) (last : TextFi
   pub counted_text : LastCounted sunk r (length sinks) last.file c d
 
 -- each name among these is another than one that isn't
-other_in : (names : List (List ℕ)) (k : ℕ) (n x : List ℕ) → k < length names → is_among names x ≡ false → get_or names k n ≢ x
+other_in : (names : List (List ℕ)) (k : ℕ) (n x : List ℕ) → k < length names → is_named names x ≡ false → get_or names k n ≢ x
 other_in names k n x within out same =
     let one = list_any_at (λ (m : List ℕ). bytes_eq m x) names k n within ((bytes_eq-Decides (get_or names k n) x).1 same) in
     cc
 
-other_at : (names : List (List ℕ)) (k : ℕ) (n x : List ℕ) → slice_get names k ≡ Some n → is_among names x ≡ false → n ≢ x
+other_at : (names : List (List ℕ)) (k : ℕ) (n x : List ℕ) → slice_get names k ≡ Some n → is_named names x ≡ false → n ≢ x
 other_at names k n x at out same = other_in names k n x (slice_get_within names k n at) out (get_or_from_slice_get names k n n at ∙ same)
 
-unless_moved : (text : List ℕ) (counts counts' now now' : FaultCounts) (holds holds' : Option (List ℕ)) → counts ≡ counts' → now' ≡ now → holds' ≡ holds → HoldsUnlessFailed text counts now holds → HoldsUnlessFailed text counts' now' holds'
+unless_moved : (text : List ℕ) (counts counts' now now' : FaultCounts) (holds holds' : Option (List ℕ)) → counts ≡ counts' → now' ≡ now → holds' ≡ holds → HoldsUnlessUnwritten text counts now holds → HoldsUnlessUnwritten text counts' now' holds'
 unless_moved text counts counts' now now' holds holds' c n h (inl (quiet, whole)) = inl (n ∙ quiet ∙ c, h ∙ whole)
 unless_moved text counts counts' now now' holds holds' c n h (inr (rose, (k, front))) =
     inr (subst (λ (x : FaultCounts). Rose x.writing now'.writing) c (subst (λ (x : FaultCounts). Rose counts.writing x.writing) (sym n) rose), (k, h ∙ front))
@@ -158,15 +159,15 @@ module _ (sinks : List Sink) (streams : List (List Item)) (last : TextFile) (a b
         file_after (S.Done ns) (S.NotWritten at) h k s small ∙ h.filled.holds k s small,
       )
   sinks_hold (S.Done ns) S.Memory h = λ k s small.
-      let text = sink_text streams (get_or sinks k s) in
+      let text = file_text streams (get_or sinks k s) in
       inr (length text, file_after (S.Done ns) S.Memory h k s small ∙ h.filled.holds k s small ∙ ap (λ (x : List ℕ). Some x) (sym (take_all (length text) text (omega arith))))
   sinks_hold (S.Done ns) (S.NotCreated at) h = absurd h.finished.ends
   sinks_hold (S.NotCreated at) r h = absurd h.is_filled
   sinks_hold (S.NotWritten at) r h = subst (λ (x : Sunk). SinksHold x sinks (names_of sinks (Some last)) streams a d t w) (sym h.finished.ends) (λ k s small.
-      unless_moved (sink_text streams (get_or sinks k s)) (b (get_or sinks k s).file) (a (get_or sinks k s).file) (c (get_or sinks k s).file) (d (get_or sinks k s).file) (v.holds (get_or sinks k s).file) (w.holds (get_or sinks k s).file)
+      unless_moved (file_text streams (get_or sinks k s)) (b (get_or sinks k s).file) (a (get_or sinks k s).file) (c (get_or sinks k s).file) (d (get_or sinks k s).file) (v.holds (get_or sinks k s).file) (w.holds (get_or sinks k s).file)
       (h.same (get_or sinks k s).file) (count_after (S.NotWritten at) r h k s small) (file_after (S.NotWritten at) r h k s small) (h.filled.holds k s small))
   sinks_hold S.Memory r h = subst (λ (x : Sunk). SinksHold x sinks (names_of sinks (Some last)) streams a d t w) (sym h.finished.ends) (λ k s small.
-      front_moved (sink_text streams (get_or sinks k s)) (u.holds (get_or sinks k s).file) (t.holds (get_or sinks k s).file) (v.holds (get_or sinks k s).file) (w.holds (get_or sinks k s).file)
+      front_moved (file_text streams (get_or sinks k s)) (u.holds (get_or sinks k s).file) (t.holds (get_or sinks k s).file) (v.holds (get_or sinks k s).file) (w.holds (get_or sinks k s).file)
       (file_before S.Memory r h k s small) (file_after S.Memory r h k s small) (h.filled.holds k s small))
 
   -- the sinks hold their texts where they were written
@@ -309,8 +310,8 @@ module _ (sinks : List Sink) (streams : List (List Item)) (last : Option TextFil
   other_of f g stay n out = stay n (ap (λ (ss : List Sink). is_file ss n) (take_all (length sinks) sinks (omega arith)) ∙ out)
 
   -- the names of the sinks are the first
-  first_names : is_among (take (length sinks) (names_of sinks last)) ≡ is_file sinks
-  first_names = λ i n. (ap (λ (ns : List (List ℕ)). is_among ns n) (taken sinks last (length sinks) (omega arith) ∙ ap sink_names (take_all (length sinks) sinks (omega arith))) ∙ named sinks n) i
+  first_names : is_named (take (length sinks) (names_of sinks last)) ≡ is_file sinks
+  first_names = λ i n. (ap (λ (ns : List (List ℕ)). is_named ns n) (taken sinks last (length sinks) (omega arith) ∙ ap sink_names (take_all (length sinks) sinks (omega arith))) ∙ named sinks n) i
 
   holds_after : (r : Sunk) → IsAfter r (length sinks) → SinksHold r sinks (names_of sinks last) streams counts now mid new → SinksHold r sinks (names_of sinks last) streams counts now old new
   holds_after (S.Done ns) after h = h
@@ -321,8 +322,8 @@ module _ (sinks : List Sink) (streams : List (List Item)) (last : Option TextFil
     scripts = λ n out. h.scripts n out ∙ other_of old.script mid.script created.scripts n (in_front n out);
   }
     where
-      in_front : (n : List ℕ) → is_among (take at (names_of sinks last)) n ≡ false → is_file sinks n ≡ false
-      in_front n out = sym (ap (λ (f : List ℕ → Bool). f n) first_names) ∙ ap (λ (k : ℕ). is_among (take k (names_of sinks last)) n) (sym after) ∙ out
+      in_front : (n : List ℕ) → is_named (take at (names_of sinks last)) n ≡ false → is_file sinks n ≡ false
+      in_front n out = sym (ap (λ (f : List ℕ → Bool). f n) first_names) ∙ ap (λ (k : ℕ). is_named (take k (names_of sinks last)) n) (sym after) ∙ out
   holds_after S.Memory after h = λ k s small. elim (h k s small) [
     | inl same ↦ inr (0, same ∙ empty_of k s small)
     | inr front ↦ inr front

@@ -11,7 +11,7 @@ use Rattle.spl_value.specs.declared.memory.NoMemory.{NoMemory}
 use Rattle.feed_pour.specs.Counts.{FaultCounts, PerName}
 use Rattle.feed_pour.specs.Contents.{Told, WhereTold}
 use Rattle.feed_pour.specs.Contents.{HeldAfter as Finishes}
-use Rattle.file_adapters.specs.Sinks.{FilesCause, FilesCounted, FilesWritten, HoldsFront, HoldsUnlessFailed, SinksCount, SinksHold, sink_names, sink_rows, sink_text}
+use Rattle.file_adapters.specs.Sinks.{FilesCause, FilesCounted, FilesWritten, HoldsFront, HoldsUnlessUnwritten, SinksCount, SinksHold, sink_names, sink_rows, file_text}
 use Rattle.file_adapters.specs.steps.Steps.{AllCounted, EachFinished, EachPoured, FileFinished, FinishCounted, IsFilled, TextPoured, sunk_of}
 use Rattle.file_adapters.specs.declared.sinks.Sink.{Sink}
 use Rattle.file_adapters.proofs.Files.{named, named_at, out_of_front}
@@ -62,7 +62,7 @@ whole_held a faults was now h text empty none written held = whole_from a faults
 
 -- all of it, or its finishing failed
 unless_failed : {A : Type 0} (a : A) (first : Option ℕ) (k faults : ℕ) (counts now : FaultCounts) (was poured h : Option (List ℕ)) (text : List ℕ) → was ≡ Some [] → TextPoured (Ok a) was poured faults text
-    → FileFinished first k faults counts now poured h → HoldsUnlessFailed text counts now h
+    → FileFinished first k faults counts now poured h → HoldsUnlessUnwritten text counts now h
 unless_failed a first k faults counts now was poured h text empty written (inl (none, quiet, held)) = inl (quiet, whole_held a faults was poured h text empty none written held)
 unless_failed a first k faults counts now was poured h text empty written (inr (from, rose, held)) =
     inr (rose, front_held (Ok a) first k faults counts now was poured h text empty written (inr (from, rose, held)))
@@ -95,22 +95,22 @@ pub record Written {W : Type 0} (poured : W → Option (List ℕ)) (faults : W �
   pub finished : EachFinished poured faults first (length news) news sinks counts now old new
 
 fronts : {W : Type 0} (poured : W → Option (List ℕ)) (faults : W → ℕ) (r : Result (List ℕ) NoMemory) (first : Option ℕ) (olds news : List W) (sinks : List Sink) (streams : List (List Item)) (counts now : PerName) (old new : Told)
-    → Written poured faults r first olds news sinks streams counts now old new → All (λ s. HoldsFront (sink_text streams s) (new.holds s.file)) sinks
+    → Written poured faults r first olds news sinks streams counts now old new → All (λ s. HoldsFront (file_text streams s) (new.holds s.file)) sinks
 fronts poured faults r first olds news sinks streams counts now old new w k s small =
     let d = element olds k (omega (arith, w.many)) in
     front_held r first k (faults (get_or news k d)) (counts (get_or sinks k s).file) (now (get_or sinks k s).file) (poured (get_or olds k d)) (poured (get_or news k d)) (new.holds (get_or sinks k s).file)
-    (sink_text streams (get_or sinks k s)) (w.none k d (omega (arith, w.many))) (w.written k d s small) (w.finished.holds k d s (omega (arith, w.many, w.size)))
+    (file_text streams (get_or sinks k s)) (w.none k d (omega (arith, w.many))) (w.written k d s small) (w.finished.holds k d s (omega (arith, w.many, w.size)))
 
 held : {W : Type 0} (poured : W → Option (List ℕ)) (faults : W → ℕ) (r : Result (List ℕ) NoMemory) (first : Option ℕ) (olds news : List W) (sinks : List Sink) (names : List (List ℕ)) (streams : List (List Item)) (counts now : PerName) (old new : Told)
     → Written poured faults r first olds news sinks streams counts now old new → SinksHold (sunk_of r first) sinks names streams counts now old new
 held poured faults (Ok ns) None olds news sinks names streams counts now old new w = λ k s small.
     let d = element olds k (omega (arith, w.many)) in
     whole_always ns k (faults (get_or news k d)) (counts (get_or sinks k s).file) (now (get_or sinks k s).file) (poured (get_or olds k d)) (poured (get_or news k d)) (new.holds (get_or sinks k s).file)
-    (sink_text streams (get_or sinks k s)) (w.none k d (omega (arith, w.many))) (w.written k d s small) (w.finished.holds k d s (omega (arith, w.many, w.size)))
+    (file_text streams (get_or sinks k s)) (w.none k d (omega (arith, w.many))) (w.written k d s small) (w.finished.holds k d s (omega (arith, w.many, w.size)))
 held poured faults (Ok ns) (Some place) olds news sinks names streams counts now old new w = λ k s small.
     let d = element olds k (omega (arith, w.many)) in
     unless_failed ns (Some place) k (faults (get_or news k d)) (counts (get_or sinks k s).file) (now (get_or sinks k s).file) (poured (get_or olds k d)) (poured (get_or news k d)) (new.holds (get_or sinks k s).file)
-    (sink_text streams (get_or sinks k s)) (w.none k d (omega (arith, w.many))) (w.written k d s small) (w.finished.holds k d s (omega (arith, w.many, w.size)))
+    (file_text streams (get_or sinks k s)) (w.none k d (omega (arith, w.many))) (w.written k d s small) (w.finished.holds k d s (omega (arith, w.many, w.size)))
 held poured faults (Err e) first olds news sinks names streams counts now old new w = λ k s small. inr (fronts poured faults (Err e) first olds news sinks streams counts now old new w k s small)
 
 written : {W : Type 0} (poured : W → Option (List ℕ)) (faults : W → ℕ) (r : Result (List ℕ) NoMemory) (first : Option ℕ) (olds news : List W) (sinks : List Sink) (streams : List (List Item)) (counts now : PerName) (old new : Told)

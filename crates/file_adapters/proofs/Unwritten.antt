@@ -9,7 +9,8 @@ use Rattle.feed_pour.specs.Counts.{FaultCounts, CreatingCounted, PerName, Rose}
 use Rattle.feed_pour.specs.Contents.{Told, TellsSame, WhereTold}
 use Rattle.feed_pour.specs.declared.outside.PourAnswer.{PourAnswer}
 use Rattle.feed_pour.specs.declared.outside.PourAnswer.TheVariants as P
-use Rattle.file_adapters.specs.Sinks.{AreDistinct, FilesCause, FilesCounted, FilesWritten, HasOwnFile, HoldsFrontOrSame, LastHolds, SinksCount, SinksHold, is_among, names_of, sink_names, sink_text}
+use Rattle.file_adapters.specs.Sinks.{AreDistinct, FilesCause, FilesCounted, FilesWritten, HasOwnFile, HoldsFrontOrSame, LastHolds, SinksCount, SinksHold, names_of, sink_names, file_text}
+use Rattle.language_model.specs.Names.{is_named}
 use Rattle.file_adapters.specs.steps.Steps.{CreateCounted, EachFinished, FinishCounted, SinksEmptied, is_file, not_created}
 use Rattle.file_adapters.specs.declared.sinks.Sink.{Sink}
 use Rattle.file_adapters.specs.declared.sinks.Sunk.TheVariants as S
@@ -46,7 +47,7 @@ empty_told poured faults first pours sinks counts now (Some t) (Some u) (Some v)
 -- ---- a sink's file wasn't created
 
 front_or_same : (sinks : List Sink) (streams : List (List Item)) (place : ℕ) (old new : Told) → AreDistinct (sink_names sinks) → place ≤ length sinks → SinksEmptied place sinks old new
-    → All (λ s. HoldsFrontOrSame (sink_text streams s) (old.holds s.file) (new.holds s.file)) sinks
+    → All (λ s. HoldsFrontOrSame (file_text streams s) (old.holds s.file) (new.holds s.file)) sinks
 front_or_same sinks streams place old new distinct within empty k s small = elim (cases_lt k place) [
   | inl less ↦
       let size : length (take place sinks) ≡ place = length-take-le place sinks within in
@@ -94,7 +95,7 @@ unwritten_cause P.Failed first old mid new sinks last place within created finis
         at = named_of sinks last place s rose.sink;
         rose = subst (λ (n : ℕ). Rose (old s.file).creating n) (sym (finished.creating s.file)) rose.rose;
         creating = λ n e. finished.creating n ∙ ap (λ (c : FaultCounts). c.creating) (rose.others n e);
-        later = λ n out e. finished.others n (sym (named (take place sinks) n) ∙ ap (λ (ns : List (List ℕ)). is_among ns n) (sym (taken sinks last place within)) ∙ out) ∙ rose.others n e;
+        later = λ n out e. finished.others n (sym (named (take place sinks) n) ∙ ap (λ (ns : List (List ℕ)). is_named ns n) (sym (taken sinks last place within)) ∙ out) ∙ rose.others n e;
       },
     )
 unwritten_cause P.Memory first old mid new sinks last place within created finished = tt
@@ -151,8 +152,8 @@ text_failed_counts first old mid new sinks text count created finished = record 
     field : (f : FaultCounts → ℕ) → f (mid text.file) ≡ f (old text.file) → (n : List ℕ) → f (mid n) ≡ f (old n)
     field f here n = elim (one_or_other n text.file) [ inl e ↦ ap (λ (m : List ℕ). f (mid m)) e ∙ here ∙ ap (λ (m : List ℕ). f (old m)) (sym e) | inr other ↦ ap f (created.others n other) ]
 
-    front : (n : List ℕ) → is_among (sink_names sinks) n ≡ is_among (take (length sinks) (names_of sinks (Some text))) n
-    front n = ap (λ (ns : List (List ℕ)). is_among ns n) (ap sink_names (sym (take_all (length sinks) sinks (omega arith))) ∙ sym (taken sinks (Some text) (length sinks) (omega arith)))
+    front : (n : List ℕ) → is_named (sink_names sinks) n ≡ is_named (take (length sinks) (names_of sinks (Some text))) n
+    front n = ap (λ (ns : List (List ℕ)). is_named ns n) (ap sink_names (sym (take_all (length sinks) sinks (omega arith))) ∙ sym (taken sinks (Some text) (length sinks) (omega arith)))
 
 -- memory ran out for it
 pub text_wanting_counts : (first : Option ℕ) (old mid new : PerName) (sinks : List Sink) (text : TextFile) (count : ℕ) → CreatingCounted false old mid text.file → FinishCounted first count sinks mid new

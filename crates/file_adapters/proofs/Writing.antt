@@ -12,7 +12,7 @@ use Rattle.feed_pour.specs.Contents.{failed_write}
 use Rattle.spl_value.specs.declared.memory.NoMemory.{NoMemory}
 use Rattle.feed_pour.specs.declared.outside.PourAnswer.{PourAnswer}
 use Rattle.feed_pour.specs.declared.outside.PourAnswer.TheVariants as P
-use Rattle.file_adapters.specs.Sinks.{sink_rows, sink_text, stream_at}
+use Rattle.file_adapters.specs.Sinks.{sink_rows, file_text, stream_at}
 use Rattle.row_writer.specs.Writing.{RowsPoured}
 use Rattle.file_adapters.specs.steps.Steps.{AllCounted, CountedUnless, EachPoured, TextPoured}
 use Rattle.file_adapters.specs.declared.sinks.Sink.{Sink}
@@ -20,7 +20,7 @@ use Rattle.file_adapters.specs.declared.sinks.Sink.{Sink}
 -- into the pours before this place their texts were poured
 abbrev pub PouredBefore : {W : Type 0} → (W → Option (List ℕ)) → (W → ℕ) → ℕ → List W → List W → List Sink → List (List Item) → Type 0
 PouredBefore {W} poured faults i olds news sinks streams =
-    (k : ℕ) (d : W) (s : Sink) → k < i → TextPoured {A = Unit {0}} (Ok tt) (poured (get_or olds k d)) (poured (get_or news k d)) (faults (get_or news k d)) (sink_text streams (get_or sinks k s))
+    (k : ℕ) (d : W) (s : Sink) → k < i → TextPoured {A = Unit {0}} (Ok tt) (poured (get_or olds k d)) (poured (get_or news k d)) (faults (get_or news k d)) (file_text streams (get_or sinks k s))
 
 -- from this place on the pours are as they were
 abbrev pub SameFrom : {W : Type 0} → ℕ → List W → List W → Type 0
@@ -65,7 +65,7 @@ no_front A w (Some old) now faults text same = (0, omega arith, same ∙ ap (λ 
 
 -- one more pour took its text
 pub poured_more : {W : Type 0} (poured : W → Option (List ℕ)) (faults : W → ℕ) (i : ℕ) (x y : W) (n : ℕ) (stream : List Item) (olds pours : List W) (sinks : List Sink) (streams : List (List Item))
-    → i < length pours → x ≡ get_or pours i x → ((s : Sink) → sink_text streams (get_or sinks i s) ≡ text_of stream)
+    → i < length pours → x ≡ get_or pours i x → ((s : Sink) → file_text streams (get_or sinks i s) ≡ text_of stream)
     → PouredBefore poured faults i olds pours sinks streams → SameFrom i olds pours → TextPoured {A = ℕ} (Ok n) (poured x) (poured y) (faults y) (text_of stream)
     → PouredBefore poured faults (i + 1) olds (set pours i y) sinks streams
 poured_more poured faults i x y n stream olds pours sinks streams within is text before rest now k d s small = elim (cases_lt k i) [
@@ -83,36 +83,36 @@ same_more i y olds pours rest k d above = get_or-set_other pours i k y d (λ e. 
 pub each_poured : {W A : Type 0} (poured : W → Option (List ℕ)) (faults : W → ℕ) (a : A) (i : ℕ) (olds pours : List W) (sinks : List Sink) (streams : List (List Item)) → length sinks ≤ i
     → PouredBefore poured faults i olds pours sinks streams → EachPoured poured faults (Ok a) olds pours sinks streams
 each_poured {W} {A} poured faults a i olds pours sinks streams all before k d s small =
-    same_text (Unit {0}) A tt a (poured (get_or olds k d)) (poured (get_or pours k d)) (faults (get_or pours k d)) (sink_text streams (get_or sinks k s)) (before k d s (omega arith))
+    same_text (Unit {0}) A tt a (poured (get_or olds k d)) (poured (get_or pours k d)) (faults (get_or pours k d)) (file_text streams (get_or sinks k s)) (before k d s (omega arith))
 
 -- none took any
 pub none_poured : {W : Type 0} (A : Type 0) (poured : W → Option (List ℕ)) (faults : W → ℕ) (w : NoMemory) (pours : List W) (sinks : List Sink) (streams : List (List Item))
     → EachPoured {A = A} poured faults (Err w) pours pours sinks streams
 none_poured A poured faults w pours sinks streams k d s small =
-    no_front A w (poured (get_or pours k d)) (poured (get_or pours k d)) (faults (get_or pours k d)) (sink_text streams (get_or sinks k s)) refl
+    no_front A w (poured (get_or pours k d)) (poured (get_or pours k d)) (faults (get_or pours k d)) (file_text streams (get_or sinks k s)) refl
 
 -- memory ran out at one
 pub some_poured : {W : Type 0} (A : Type 0) (poured : W → Option (List ℕ)) (faults : W → ℕ) (i : ℕ) (x y : W) (e w : NoMemory) (stream : List Item) (olds pours : List W) (sinks : List Sink) (streams : List (List Item))
-    → i < length pours → x ≡ get_or pours i x → ((s : Sink) → sink_text streams (get_or sinks i s) ≡ text_of stream)
+    → i < length pours → x ≡ get_or pours i x → ((s : Sink) → file_text streams (get_or sinks i s) ≡ text_of stream)
     → PouredBefore poured faults i olds pours sinks streams → SameFrom i olds pours → TextPoured {A = ℕ} (Err e) (poured x) (poured y) (faults y) (text_of stream)
     → EachPoured {A = A} poured faults (Err w) olds (set pours i y) sinks streams
 some_poured A poured faults i x y e w stream olds pours sinks streams within is text before rest now k d s small = elim (cases_lt k i) [
   | inl less ↦ rw (get_or-set_other pours i k y d (λ e. omega (arith, e, less)))
-      (text_front (Unit {0}) A tt w (poured (get_or olds k d)) (poured (get_or pours k d)) (faults (get_or pours k d)) (sink_text streams (get_or sinks k s)) (before k d s less))
+      (text_front (Unit {0}) A tt w (poured (get_or olds k d)) (poured (get_or pours k d)) (faults (get_or pours k d)) (file_text streams (get_or sinks k s)) (before k d s less))
   | inr more ↦ elim (cases_eq k i) [
     | inl here ↦
         let was : get_or olds i d ≡ x = sym (rest i d (omega arith)) ∙ sym (get_or_read pours i x within is d) in
         rw (here, get_or-set_same pours i y d within, was, text s) (same_front ℕ A e w (poured x) (poured y) (faults y) (text_of stream) now)
     | inr above ↦ rw (get_or-set_other pours i k y d above)
-        (no_front A w (poured (get_or olds k d)) (poured (get_or pours k d)) (faults (get_or pours k d)) (sink_text streams (get_or sinks k s)) (ap poured (rest k d more)))
+        (no_front A w (poured (get_or olds k d)) (poured (get_or pours k d)) (faults (get_or pours k d)) (file_text streams (get_or sinks k s)) (ap poured (rest k d more)))
   ]
 ]
 
 -- ---- the stream of a sink, and its rows
 
 pub text_at : (streams : List (List Item)) (sinks : List Sink) (i : ℕ) (x : Sink) (stream : List Item) → i < length sinks → x ≡ get_or sinks i x → stream ≡ stream_at streams x
-    → (s : Sink) → sink_text streams (get_or sinks i s) ≡ text_of stream
-text_at streams sinks i x stream within is of s = ap (sink_text streams) (sym (get_or_read sinks i x within is s)) ∙ ap text_of (sym of)
+    → (s : Sink) → file_text streams (get_or sinks i s) ≡ text_of stream
+text_at streams sinks i x stream within is of s = ap (file_text streams) (sym (get_or_read sinks i x within is s)) ∙ ap text_of (sym of)
 
 pub rows_more : (streams : List (List Item)) (sinks : List Sink) (i : ℕ) (x : Sink) (stream : List Item) (n : ℕ) (olds news : List ℕ) → i < length sinks → x ≡ get_or sinks i x
     → stream ≡ stream_at streams x → n ≡ count_by is_tuple stream → olds ≡ map (sink_rows streams) (take i sinks) → news ≡ olds ++ n ∷ [] → news ≡ map (sink_rows streams) (take (i + 1) sinks)

@@ -24,7 +24,7 @@ use Rattle.language_model.specs.WorldFits.{EnvFits, FunctionsFit}
 use Rattle.stream_model.specs.declared.reply.Reply.{Reply}
 use Rattle.stream_model.specs.Stream.{Event, came}
 use Rattle.stream_model.specs.Operators.{Operator}
-use Rattle.stream_model.specs.PortEvents.{items_of}
+use Rattle.stream_model.specs.PortEvents.{port_items}
 use Rattle.stream_model.specs.Bodies.{by_item}
 use Rattle.stream_model.specs.Joins.{at_pair, join_body, side_content}
 use Rattle.stream_model.specs.React.{answer, makes_by}
@@ -101,11 +101,11 @@ is_allowed schema _ (K.sliding_delta place limit is) = λ m e. absurd cc
 
 -- a tuple that a side holds has the attributes of the side's port
 held_has : (op : Operator) (port : ℕ) (window : Policy) (schema : Attributes) → unwrap_or (slice_get op.types.ins port) [] ≡ schema → (h : List Event) → HistoryFits op h
-    → (i : ℕ) (u : List Value) → slice_get (side_content window (items_of port h)) i ≡ Some u → Has schema u
+    → (i : ℕ) (u : List Value) → slice_get (side_content window (port_items port h)) i ≡ Some u → Has schema u
 held_has op port window schema is h fit i u at =
-    all_at (Has schema) (side_content window (items_of port h)) i u
-    (all_content (Has schema) window.rule [] (window_events (partition_key window []) (items_of port h))
-    (inserted_of (Has schema) (partition_key window []) (items_of port h) (came_has op port schema is h fit))) at
+    all_at (Has schema) (side_content window (port_items port h)) i u
+    (all_content (Has schema) window.rule [] (window_events (partition_key window []) (port_items port h))
+    (inserted_of (Has schema) (partition_key window []) (port_items port h) (came_has op port schema is h fit))) at
 
 -- ---- pairs
 
@@ -141,12 +141,12 @@ module _ (op : Operator) (fit : IsFitting op) (left right : Policy) (condition :
 
   -- and so they fit a tuple of a port with each that the other side holds
   pub left_pairs : (h : List Event) → HistoryFits op h → (t : List Value) → HasPort op 0 (I.Tuple t) → (i : ℕ) (u : List Value)
-      → slice_get (side_content right (items_of 1 h)) i ≡ Some u → PairFits op.functions condition output (at_pair t u)
+      → slice_get (side_content right (port_items 1 h)) i ≡ Some u → PairFits op.functions condition output (at_pair t u)
   left_pairs h history t has i u at =
       pair_fits t u (subst (λ a. ItemHas a (I.Tuple t)) first_is has.1) (held_has op 1 right shape.second second_is h history i u at)
 
   pub right_pairs : (h : List Event) → HistoryFits op h → (t : List Value) → HasPort op 1 (I.Tuple t) → (i : ℕ) (u : List Value)
-      → slice_get (side_content left (items_of 0 h)) i ≡ Some u → PairFits op.functions condition output (at_pair u t)
+      → slice_get (side_content left (port_items 0 h)) i ≡ Some u → PairFits op.functions condition output (at_pair u t)
   right_pairs h history t has i u at =
       pair_fits u t (held_has op 0 left shape.first first_is h history i u at) (subst (λ a. ItemHas a (I.Tuple t)) second_is has.1)
 
@@ -172,7 +172,7 @@ pub left_behind : (left right : Policy) (l r new : Window) (env now : Env) (h : 
     → Behind l new x → IsReady now → SidesStand left right new r now (came port x ∷ h)
 left_behind left right l r new env now h port x first stood moves ready =
     subst (λ p. SidesStand left right new r now (came p x ∷ h)) (sym first) (record {
-      left_stands = subst (Stands left.rule new) (window_behind left x (items_of 0 h)) (moves left.rule _ stood.left_stands);
+      left_stands = subst (Stands left.rule new) (window_behind left x (port_items 0 h)) (moves left.rule _ stood.left_stands);
       right_stands = stood.right_stands;
       ready = ready;
     })
@@ -182,7 +182,7 @@ pub right_behind : (left right : Policy) (l r new : Window) (env now : Env) (h :
 right_behind left right l r new env now h port x second stood moves ready =
     subst (λ p. SidesStand left right l new now (came p x ∷ h)) (sym second) (record {
       left_stands = stood.left_stands;
-      right_stands = subst (Stands right.rule new) (window_behind right x (items_of 1 h)) (moves right.rule _ stood.right_stands);
+      right_stands = subst (Stands right.rule new) (window_behind right x (port_items 1 h)) (moves right.rule _ stood.right_stands);
       ready = ready;
     })
 
@@ -197,10 +197,10 @@ module _ (clauses : Clauses) (l r : Window) (env : Env) (h : List Event) (port :
   sides = stood.sides may.goes_on
 
   abbrev right_history : List WindowEvent
-  right_history = window_events (partition_key stood.right []) (items_of 1 h)
+  right_history = window_events (partition_key stood.right []) (port_items 1 h)
 
   abbrev left_history : List WindowEvent
-  left_history = window_events (partition_key stood.left []) (items_of 0 h)
+  left_history = window_events (partition_key stood.left []) (port_items 0 h)
 
   pub ready_there : IsReady env
   ready_there = sides.ready
@@ -241,7 +241,7 @@ module _ (clauses : Clauses) (l r : Window) (env : Env) (h : List Event) (port :
       → RepliesToItem clauses.at.number (length clauses.at.op.now.outs) (answer (by_item (λ t. matched clauses (map (pair_env side t) (content rule [] k))) [] x)) x reply
 
   body_is : (p : ℕ) → port ≡ p → answer (makes_by op.clauses op h port x)
-      ≡ answer (join_body op.functions stood.left stood.right clauses.condition.now clauses.output.now (items_of 0 h) (items_of 1 h) p x)
+      ≡ answer (join_body op.functions stood.left stood.right clauses.condition.now clauses.output.now (port_items 0 h) (port_items 1 h) p x)
   body_is p same = λ i. answer (makes_by (stood.clauses i) op h (same i) x)
 
   pub left_replies : (reply : Reply) → port ≡ 0 → SideReplies Left r reply → RepliesAt op h port x reply

@@ -6,7 +6,7 @@ use Rattle.language_model.specs.declared.checked.CheckedClauses.TheVariants as A
 use Rattle.language_model.specs.declared.checked.Policy.{Policy}
 use Rattle.language_model.specs.declared.env.Env.{Env}
 use Rattle.stream_model.specs.Operators.{Operator}
-use Rattle.stream_model.specs.PortEvents.{items_of}
+use Rattle.stream_model.specs.PortEvents.{port_items}
 use Rattle.stream_model.specs.Stream.{Event}
 use Rattle.stream_model.specs.Windows.{partition_key, window_events}
 use Rattle.window_policy.specs.declared.window.Window.{Window}
@@ -16,8 +16,8 @@ use Rattle.join_op.specs.Pairs.{IsReady}
 
 -- each window stands for the items of its port, and there is room for a pair
 pub record SidesStand (left right : Policy) (l r : Window) (env : Env) (h : List Event) : Type 0 where
-  pub left_stands : Stands left.rule l (window_events (partition_key left []) (items_of 0 h))
-  pub right_stands : Stands right.rule r (window_events (partition_key right []) (items_of 1 h))
+  pub left_stands : Stands left.rule l (window_events (partition_key left []) (port_items 0 h))
+  pub right_stands : Stands right.rule r (window_events (partition_key right []) (port_items 1 h))
   pub ready : IsReady env
 
 -- while the operator hasn't ended by a fault, the windows of its clauses stand

@@ -20,7 +20,7 @@ use Rattle.spl_tree.specs.declared.body.Change.{Change}
 use Rattle.spl_tree.specs.declared.body.Change.TheVariants as H
 use Rattle.spl_tree.specs.declared.code.Selector.{Selector}
 use Rattle.spl_tree.specs.declared.code.Selector.TheVariants as K
-use Rattle.language_model.specs.Changes.{passed_on, step_of, level_index, level_changed, changed, change_of}
+use Rattle.language_model.specs.Changes.{passed_on, step_of, found_index, level_changed, changed, change_of}
 use Rattle.language_model.specs.Operators.{level_member, level_element}
 use Rattle.language_model.proofs.BuiltInCalls.{append_called, remove_called, clear_called}
 use Rattle.language_model.proofs.Operating.{settles_by, settles_as, level_list, level_tuple, member_settles, element_settles, at_key_settles}
@@ -115,7 +115,7 @@ element_changed : (n : Value) (k : IntKind) (t : SplType) → OfType (S.Int k) n
     → (v : Value) → OfType (S.List t) v → Settles (S.List t) (level_changed (K.Element n) change (out-Value v))
 element_changed n k t at change keeps v h =
     let is = level_list t v h in
-    let i = level_index (out-Value n) in
+    let i = found_index (out-Value n) in
     let old = subst (λ x. Settles t (level_element x (out-Value n))) is.1 (element_settles t k v n h at) in
     settles_by (S.List t) (level_changed (K.Element n) change (out-Value v)) _ (ap (level_changed (K.Element n) change) is.1)
     (settles_passed t (S.List t) _ _ old (λ w f.

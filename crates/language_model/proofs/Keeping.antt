@@ -39,33 +39,34 @@ all_pass row = list_all (λ b. b) row
 abbrev pub arms_pass : List (Code Slot × List Bool) → Bool
 arms_pass arms = list_all (λ arm. all_pass arm.1) arms
 
-abbrev pub level_passes : (ℕ → Bool) → (Code Slot → Bool) → Statement-F Bool → Bool
+abbrev pub level_passes : (ℕ → Bool) → (ℕ → Option (Code Slot) → Bool) → Statement-F Bool → Bool
 level_passes changes submits (S.Block row) = all_pass row
 level_passes changes submits (S.Change place change) = changes place.variable
 level_passes changes submits (S.If arms other) = arms_pass arms && all_pass other
 level_passes changes submits (S.While code row) = all_pass row
 level_passes changes submits (S.For code row) = all_pass row
-level_passes changes submits (S.Submit port code) = submits code
+level_passes changes submits (S.Submit port code) = submits port (Some code)
+level_passes changes submits (S.SubmitWindow port) = submits port None
 level_passes changes submits _ = true
 
--- each variable that is changed passes the first test, and the code of each tuple that is submitted the second
-abbrev pub statement_passes : (ℕ → Bool) → (Code Slot → Bool) → Statement → Bool
+-- each variable that is changed passes the first test, and each submit the second, by its port and, where it is one of a tuple, by its code
+abbrev pub statement_passes : (ℕ → Bool) → (ℕ → Option (Code Slot) → Bool) → Statement → Bool
 statement_passes changes submits = fold-Statement Bool (level_passes changes submits)
 
-abbrev pub row_passes : (ℕ → Bool) → (Code Slot → Bool) → List Statement → Bool
+abbrev pub row_passes : (ℕ → Bool) → (ℕ → Option (Code Slot) → Bool) → List Statement → Bool
 row_passes changes submits row = all_pass (map (statement_passes changes submits) row)
 
 -- a fact of states that is kept by each change of a variable that passes the first test, by a new variable, by the end of variables, and by
--- each submit, of a tuple whose code passes the second test
-pub record IsKept (bodies : Bodies) (changes : ℕ → Bool) (submits : Code Slot → Bool) (Kept : State → Type 0) : Type 0 where
+-- each submit that passes the second test
+pub record IsKept (bodies : Bodies) (changes : ℕ → Bool) (submits : ℕ → Option (Code Slot) → Bool) (Kept : State → Type 0) : Type 0 where
   pub change : (s : State) (i : ℕ) (v : Value) → changes i ≡ true → Kept s → Kept (with_vars s (slice_set s.env.vars i v))
   pub declare : (s : State) (v : Value) → Kept s → Kept (declared s v)
   pub end : (s t : State) → Kept s → Kept t → Kept (ended s t)
-  pub tuple : (s : State) (port : ℕ) (code : Code Slot) (turns left : ℕ) (v : Value) (us : List Value) → submits code ≡ true → value_in bodies code s turns ≡ Done v left
+  pub tuple : (s : State) (port : ℕ) (code : Code Slot) (turns left : ℕ) (v : Value) (us : List Value) → submits port (Some code) ≡ true → value_in bodies code s turns ≡ Done v left
       → level_tuple (out-Value v) ≡ Some us → Kept s → Kept (submitted s port (I.Tuple us))
-  pub window : (s : State) (port : ℕ) → Kept s → Kept (submitted s port I.Window)
+  pub window : (s : State) (port : ℕ) → submits port None ≡ true → Kept s → Kept (submitted s port I.Window)
 
-module _ (bodies : Bodies) (changes : ℕ → Bool) (submits : Code Slot → Bool) (Kept : State → Type 0) (kept : IsKept bodies changes submits Kept) where
+module _ (bodies : Bodies) (changes : ℕ → Bool) (submits : ℕ → Option (Code Slot) → Bool) (Kept : State → Type 0) (kept : IsKept bodies changes submits Kept) where
   abbrev pub After : Flow × State → Type 0
   After w = Kept w.1
 
@@ -156,7 +157,7 @@ module _ (bodies : Bodies) (changes : ℕ → Bool) (submits : Code Slot → Boo
   return_keeps None s i turns = i
   return_keeps (Some code) s i turns = only_is After (value_in bodies code s turns) _ (λ v turns t. i)
 
-  submit_keeps : (port : ℕ) (code : Code Slot) → submits code ≡ true → Keeps (statement_acts bodies (T.Submit port code))
+  submit_keeps : (port : ℕ) (code : Code Slot) → submits port (Some code) ≡ true → Keeps (statement_acts bodies (T.Submit port code))
   submit_keeps port code e = keeps_by (statement_acts bodies (T.Submit port code)) _ (submit_is bodies port code) (λ s i turns.
       only_is After (value_in bodies code s turns) _ (λ v left t.
       need_is After (level_tuple (out-Value v)) _ (λ us u. kept.tuple s port code turns left v us e t u i)))
@@ -200,7 +201,8 @@ module _ (bodies : Bodies) (changes : ℕ → Bool) (submits : Code Slot → Boo
     continue = λ e. keeps_by (statement_acts bodies T.Continue) _ (continue_is bodies) (λ s i turns. i);
     return = λ code e. keeps_by (statement_acts bodies (T.Return code)) _ (return_is bodies code) (return_keeps code);
     submit = λ port code. fine_by (T.Submit port code) (S.Submit port code) (T.outs-Submit port code) (λ e. submit_keeps port code e);
-    submit_window = λ port e. keeps_by (statement_acts bodies (T.SubmitWindow port)) _ (submit_window_is bodies port) (λ s i turns. kept.window s port i);
+    submit_window = λ port. fine_by (T.SubmitWindow port) (S.SubmitWindow port) (T.outs-SubmitWindow port) (λ e.
+        keeps_by (statement_acts bodies (T.SubmitWindow port)) _ (submit_window_is bodies port) (λ s i turns. kept.window s port e i));
   }
 
   all_fine : (row : List Statement) → AllByRecursion Fine row
@@ -220,7 +222,7 @@ left_from Kept (F.Broken, s) turns k = tt
 left_from Kept (F.Continued, s) turns k = tt
 left_from Kept (F.Returned v, s) turns k = (s, k, refl, refl)
 
-pub body_keeps : (bodies : Bodies) (changes : ℕ → Bool) (submits : Code Slot → Bool) (Kept : State → Type 0) (kept : IsKept bodies changes submits Kept) (row : List Statement) (env : Env) (turns : ℕ)
+pub body_keeps : (bodies : Bodies) (changes : ℕ → Bool) (submits : ℕ → Option (Code Slot) → Bool) (Kept : State → Type 0) (kept : IsKept bodies changes submits Kept) (row : List Statement) (env : Env) (turns : ℕ)
     → row_passes changes submits row ≡ true → Kept (record { env = env; submits = [] }) → Only (LeftBy Kept) (body_leaves bodies row env turns)
 body_keeps bodies changes submits Kept kept row env turns e k =
     only_followed (After bodies changes submits Kept kept) (LeftBy Kept) (scoped (row_acts bodies row) (record { env = env; submits = [] }) turns) _

@@ -1,6 +1,6 @@
--- Which statements fit a scope: each expression in one fits, each place is mutable, and `break`, `continue`, `return` and `submit` stand
--- where they may. Each constructor is a rule of the language. Statements that fit are never stuck; that a function with a result returns
--- one is a condition of its own.
+-- Which statements fit a scope: each expression in one fits, each place is mutable, and `break`, `continue`, `return`
+-- and `submit` stand where they may. Each constructor is a rule of the language. Statements that fit are never stuck;
+-- that a function with a result returns one is a condition of its own.
 use Rattle.std.specs.Prelude.{◌≡◌, ℕ, Bool, true, false, IsTrue, List, [], ◌∷◌, ◌++◌, slice_get, Option, None, Some}
 use Rattle.spl_value.specs.declared.types.Named.{Named}
 use Rattle.spl_value.specs.declared.types.SplType.{SplType}
@@ -20,8 +20,8 @@ use Rattle.language_model.specs.declared.scope.Variable.{Variable}
 use Rattle.language_model.specs.CodeFits.{CodeFits, ArgumentsFit, StepsLead}
 use Rattle.language_model.specs.Scopes.{at_place, variable_of}
 
--- what a body is that of: a function, with the type of its result where it has one, or a handler, with the attributes of the output
--- ports to which it may submit
+-- what a body is that of: a function, with the type of its result where it has one, or a handler, with the attributes
+-- of the output ports to which it may submit
 pub data Purpose : Type 0 where
   OfFunction : Option SplType → Purpose
   OfHandler : List (List (Named SplType)) → Purpose
@@ -39,7 +39,8 @@ with_variable scope v = record scope { vars = scope.vars ++ v ∷ [] }
 
 -- a place of the type, in a variable that can be named and may be changed
 pub data PlaceFits (scope : Scope) : Place → SplType → Type 0 where
-  in_variable : (place : Place) (v : Variable) (t : SplType) → slice_get scope.vars place.variable ≡ Some v → variable_of scope v.name ≡ Some (at_place place.variable v)
+  in_variable : (place : Place) (v : Variable) (t : SplType) → slice_get scope.vars place.variable ≡ Some v
+      → variable_of scope v.name ≡ Some (at_place place.variable v)
       → IsTrue v.mutable → StepsLead scope place.takings v.kind t → PlaceFits scope place t
 
 -- a change of a place of the type
@@ -64,12 +65,14 @@ mutual
   -- a statement fits in a scope and leads to one, which has a variable more where it declares one; inside a loop or not
   pub data StatementFits (purpose : Purpose) : Bool → Scope → Statement → Scope → Type 0 where
     block : (l : Bool) (scope : Scope) (row : List Statement) → RowFits purpose l scope row → StatementFits purpose l scope (T.Block row) scope
-    declare : (l : Bool) (scope : Scope) (x : Code Slot) (v : Variable) → CodeFits scope x v.kind → StatementFits purpose l scope (T.Declare x) (with_variable scope v)
+    declare : (l : Bool) (scope : Scope) (x : Code Slot) (v : Variable) → CodeFits scope x v.kind
+        → StatementFits purpose l scope (T.Declare x) (with_variable scope v)
     change : (l : Bool) (scope : Scope) (place : Place) (change : Change (Code Slot)) (t : SplType) → PlaceFits scope place t → ChangeFits scope change t
         → StatementFits purpose l scope (T.Change place change) scope
     evaluate : (l : Bool) (scope : Scope) (f : BuiltIn) (xs : List (Code Slot)) (t : SplType) → CodeFits scope (C.BuiltIn f xs) t
         → StatementFits purpose l scope (T.Evaluate (C.BuiltIn f xs)) scope
-    call : (l : Bool) (scope : Scope) (i : ℕ) (xs : List (Code Slot)) (f : Signature) → slice_get scope.functions i ≡ Some f → ArgumentsFit scope xs f.parameters
+    call : (l : Bool) (scope : Scope) (i : ℕ) (xs : List (Code Slot)) (f : Signature)
+        → slice_get scope.functions i ≡ Some f → ArgumentsFit scope xs f.parameters
         → StatementFits purpose l scope (T.Call i xs) scope
     if_else : (l : Bool) (scope : Scope) (arms : List (Code Slot × List Statement)) (other : List Statement) → ArmsFit purpose l scope arms
         → RowFits purpose l scope other → StatementFits purpose l scope (T.If arms other) scope
@@ -79,7 +82,8 @@ mutual
         → v.mutable ≡ false → RowFits purpose true (with_variable scope v) row → StatementFits purpose l scope (T.For x row) scope
     break : (scope : Scope) → StatementFits purpose true scope T.Break scope
     continue : (scope : Scope) → StatementFits purpose true scope T.Continue scope
-    return : (l : Bool) (scope : Scope) (x : Option (Code Slot)) → ReturnFits scope x (result_of purpose) → StatementFits purpose l scope (T.Return x) scope
+    return : (l : Bool) (scope : Scope) (x : Option (Code Slot)) → ReturnFits scope x (result_of purpose)
+        → StatementFits purpose l scope (T.Return x) scope
     submit : (l : Bool) (scope : Scope) (port : ℕ) (x : Code Slot) (schema : List (Named SplType)) → slice_get (outputs_of purpose) port ≡ Some schema
         → CodeFits scope x (S.Tuple schema) → StatementFits purpose l scope (T.Submit port x) scope
     submit_window : (l : Bool) (scope : Scope) (port : ℕ) (schema : List (Named SplType)) → slice_get (outputs_of purpose) port ≡ Some schema
@@ -109,4 +113,5 @@ mutual
 
   pub data ArmsReturn : List (Code Slot × List Statement) → Type 0 where
     no_arms : ArmsReturn []
-    arm : (x : Code Slot) (row : List Statement) (arms : List (Code Slot × List Statement)) → RowReturns row → ArmsReturn arms → ArmsReturn ((x, row) ∷ arms)
+    arm : (x : Code Slot) (row : List Statement) (arms : List (Code Slot × List Statement)) → RowReturns row
+        → ArmsReturn arms → ArmsReturn ((x, row) ∷ arms)

@@ -1,5 +1,5 @@
--- The code of a body: its statements one after another, each in the scope to which those before it lead, or the first refusal, in the
--- order of the text.
+-- The code of a body: its statements one after another, each in the scope to which those before it lead, or the first
+-- refusal, in the order of the text.
 use Rattle.std.specs.Prelude.{ℕ, Bool, true, false, ◌&&◌, List, [], ◌∷◌, map, if◌then◌else◌, Option, Some, None, Ok, slice_get}
 use Rattle.std.specs.List.{list_all}
 use Rattle.std.specs.Option.{option_map_or}
@@ -32,7 +32,8 @@ use Rattle.language_model.specs.StatementTyping.{assignment_typing, compound_typ
 use Rattle.language_model.specs.TypeNames.{Types, type_meant}
 use Rattle.language_model.specs.Typing.{Found, after, mismatch, same_types, typing, unknown, wrong_call}
 
--- where a body stands: what the names of types mean, what it is the body of, and the names of the output ports to which it may submit
+-- where a body stands: what the names of types mean, what it is the body of, and the names of the output ports to which
+-- it may submit
 pub record Setting : Type 0 where
   pub types : Types
   pub purpose : Purpose
@@ -45,7 +46,8 @@ Stated = ℕ → Setting → Bool → Scope → Found (Statement × Scope)
 -- statements one after another
 abbrev pub row_typing : Setting → Bool → Scope → List (Placed Stated) → Found (List Statement)
 row_typing setting inside scope [] = Ok []
-row_typing setting inside scope (s ∷ rest) = after (s.what s.at setting inside scope) (λ x. after (row_typing setting inside x.1 rest) (λ row. Ok (x.0 ∷ row)))
+row_typing setting inside scope (s ∷ rest) =
+    after (s.what s.at setting inside scope) (λ x. after (row_typing setting inside x.1 rest) (λ row. Ok (x.0 ∷ row)))
 
 -- a branch, or what a loop repeats: a row of one statement
 abbrev pub alone : Setting → Bool → Scope → Placed Stated → Found (List Statement)
@@ -109,8 +111,8 @@ submit_typing at setting (OfHandler schemas) scope e stream =
 
 -- ---- statements
 
--- a declaration adds its variable to the scope, and every other statement leaves the scope as it is. An `if` may have no `else`, the
--- variable of a `for` doesn't change, and `break` and `continue` stand inside a loop alone
+-- a declaration adds its variable to the scope, and every other statement leaves the scope as it is. An `if` may have
+-- no `else`, the variable of a `for` doesn't change, and `break` and `continue` stand inside a loop alone
 abbrev pub level_stated : StmtKind-F Stated → Stated
 level_stated (Z.Block ss) at setting inside scope = staying scope (after (row_typing setting inside scope ss) (λ row. Ok (T.Block row)))
 level_stated (Z.Declare d) at setting inside scope = after (type_meant setting.types d.kind) (λ t.

@@ -1,5 +1,5 @@
--- What the calls that the language has built in give: a line for each call and the variants of its arguments; all else is `Unfit`.
--- `currentPunct()` isn't among them: it is read together with what it is compared to.
+-- What the calls that the language has built in give: a line for each call and the variants of its arguments; all else
+-- is `Unfit`. `currentPunct()` isn't among them: it is read together with what it is compared to.
 use Rattle.std.specs.Prelude.{pos, nat_abs, nat_lt, if◌then◌else◌, List, [], ◌∷◌, ◌++◌, length, take, drop}
 use Rattle.spl_value.specs.declared.item.FaultKind.TheVariants.{Index}
 use Rattle.spl_value.specs.declared.value.Value.{Value}
@@ -17,8 +17,8 @@ use Rattle.spl_tree.specs.declared.code.BuiltIn.TheVariants as Q
 
 -- ---- calls in expressions
 
--- what a call gives, by the variants of its arguments; `roll-Value` gives their values. The second line of `substring` is met where
--- `from` or `count` is negative
+-- what a call gives, by the variants of its arguments; `roll-Value` gives their values. The second line of `substring`
+-- is met where `from` or `count` is negative
 abbrev pub level_call : BuiltIn → List (Value-F Value) → CallOutcome
 level_call Q.Length (O.Text bytes ∷ []) = Gives (count_value (length bytes))
 level_call Q.Size (O.List vs ∷ []) = Gives (count_value (length vs))
@@ -36,8 +36,8 @@ level_call _ _ = Unfit
 
 -- ---- calls that change a place: `appendM`, `removeM` and `clearM`
 
--- what a call makes of the value that a place holds, by its variant. Removing a key that isn't there changes nothing. An assignment
--- is no call
+-- what a call makes of the value that a place holds, by its variant. Removing a key that isn't there changes nothing.
+-- An assignment is no call
 abbrev pub level_place_call : Change Value → Value-F Value → CallOutcome
 level_place_call (H.Append v) (O.List vs) = Gives (V.List (vs ++ v ∷ []))
 level_place_call (H.Remove key) (O.Map ps) = Gives (V.Map (pairs_without ps key))

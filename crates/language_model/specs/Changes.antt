@@ -1,4 +1,5 @@
--- What a place is: the variable that is changed or what is taken of it in turn, and how the variable's value changes with it.
+-- What a place is: the variable that is changed or what is taken of it in turn, and how the variable's value changes
+-- with it.
 use Rattle.std.specs.Prelude.{ℕ, pos, List, [], ◌∷◌, Option, None, Some, slice_get, slice_set}
 use Rattle.std.specs.Option.{option_map_or}
 use Rattle.spl_value.specs.declared.item.FaultKind.TheVariants as F
@@ -29,18 +30,18 @@ step_of (K.Element n) v = level_element (out-Value v) (out-Value n)
 step_of (K.AtKey k) v = level_at_key (out-Value v) k
 
 -- the place in a list of an element that was found there
-abbrev pub level_index : Value-F Value → ℕ
-level_index (O.Int (pos i)) = i
-level_index _ = 0
+abbrev pub found_index : Value-F Value → ℕ
+found_index (O.Int (pos i)) = i
+found_index _ = 0
 
--- what becomes of a value where that which the step takes of it is changed so. At a key that a map doesn't have there is nothing to
--- be changed; what an assignment makes of nothing is added there
+-- what becomes of a value where that which the step takes of it is changed so. At a key that a map doesn't have there
+-- is nothing to be changed; what an assignment makes of nothing is added there
 abbrev pub level_changed : Selector Value → (Option Value → CallOutcome) → Value-F Value → CallOutcome
 level_changed (K.Member i) change (O.Tuple vs) =
     passed_on (option_map_or Gives (slice_get vs i) Unfit) (λ old. passed_on (change (Some old)) (λ new. Gives (V.Tuple (slice_set vs i new))))
 level_changed (K.Element n) change (O.List vs) =
     passed_on (level_element (O.List vs) (out-Value n)) (λ old.
-    passed_on (change (Some old)) (λ new. Gives (V.List (slice_set vs (level_index (out-Value n)) new))))
+    passed_on (change (Some old)) (λ new. Gives (V.List (slice_set vs (found_index (out-Value n)) new))))
 level_changed (K.AtKey k) change (O.Map ps) = passed_on (change (pairs_get ps k)) (λ new. Gives (V.Map (pairs_put ps k new)))
 level_changed _ change _ = Unfit
 

@@ -6,7 +6,8 @@ use Rattle.spl_value.specs.declared.types.Named.{Named}
 use Rattle.spl_value.specs.declared.types.SplType.{SplType}
 use Rattle.language_model.specs.declared.checked.CheckedClauses.{CheckedClauses}
 
--- the graph, the attributes of each stream, the functions of the program in the order of the text, and the clauses of each operator
+-- the graph, the attributes of each stream, the functions of the program in the order of the text, and the clauses of
+-- each operator
 pub record CheckedGraph : Type 0 where
   pub graph : Graph
   pub schemas : List (List (Named SplType))

@@ -1,6 +1,6 @@
--- The checked graph of a unit, or the first refusal: functions in the order of the text, and then operators in the order of their
--- declaration. Of an operator these are looked at in turn: how many ports it has, the types of its outputs and inputs, `config`, the
--- window, the parameters, the outputs, the logic, and the rows of a file.
+-- The checked graph of a unit, or the first refusal: functions in the order of the text, and then operators in the
+-- order of their declaration. Of an operator these are looked at in turn: how many ports it has, the types of its
+-- outputs and inputs, `config`, the window, the parameters, the outputs, the logic, and the rows of a file.
 use Rattle.std.specs.Prelude.{ℕ, suc, Bool, true, false, ◌&&◌, List, [], ◌∷◌, map, length, zip, if◌then◌else◌, codes, Option, Some, None, is_some, Ok, slice_get}
 use Rattle.std.specs.List.{list_all}
 use Rattle.std.specs.Option.{option_map_or}
@@ -39,7 +39,7 @@ use Rattle.language_model.specs.After.{each}
 use Rattle.language_model.specs.CheckedGraph.{CheckedGraph}
 use Rattle.language_model.specs.FunctionTyping.{functions_typing, unit_scope}
 use Rattle.language_model.specs.Kinds.{is_within, rules_of}
-use Rattle.language_model.specs.DollarTargets.{followed}
+use Rattle.language_model.specs.DollarTargets.{expression_meant}
 use Rattle.language_model.specs.Literals.{number_literal}
 use Rattle.language_model.specs.LogicTyping.{Surroundings, logic_typing}
 use Rattle.language_model.specs.Numbering.{numbers_from}
@@ -91,7 +91,8 @@ policy_of W.Join numbers = λ port w. after (join_rule numbers port.schema w.por
 -- the windows of all ports, in their order
 abbrev pub each_window : ℕ → List (ℕ × Policy) → ℕ → List Port → Found (List Policy)
 each_window at windows port [] = Ok []
-each_window at windows port (p ∷ ps) = after (window_at at port windows) (λ policy. after (each_window at windows (suc port) ps) (λ rest. Ok (policy ∷ rest)))
+each_window at windows port (p ∷ ps) = after (window_at at port windows) (λ policy.
+    after (each_window at windows (suc port) ps) (λ rest. Ok (policy ∷ rest)))
 
 -- each port has a window of the form. Where there is none there is no clause
 abbrev pub windows_of_form : Option WindowForm → Numbers → ℕ → List Port → Option (Placed (List PortWindow)) → Found (List Policy)
@@ -105,13 +106,13 @@ windows_of_form (Some form) numbers at ports (Some w) =
 
 -- those that are given, of which none is missing that is needed
 abbrev pub parameters_checked : Site → OpKind → Bool → ℕ → List Parameter → Found (List Given)
-parameters_checked site kind partitioned at ps =
-    after (parameters_typing site kind partitioned [] ps) (λ given.
+parameters_checked site kind partitioned at ps = after (parameters_typing site kind partitioned [] ps) (λ given.
     option_map_or (λ name. refused E.MissingParameter at (Some name)) (missing given (needed kind partitioned)) (Ok given))
 
 -- ---- parts
 
--- what is known of an operator before its outputs and its logic are looked at: its place, where it stands, its windows and its parameters
+-- what is known of an operator before its outputs and its logic are looked at: its place, where it stands, its windows
+-- and its parameters
 pub record Checks : Type 0 where
   pub at : ℕ
   pub around : Surroundings
@@ -159,15 +160,15 @@ rows_checked x schemas = if list_all has_text_form schemas then passed else refu
 
 -- ---- one operator
 
-abbrev pub first_of : {A : Type 0} → List (List A) → List A
-first_of xs = of_first [] (λ x others. x) xs
+abbrev pub first_list : {A : Type 0} → List (List A) → List A
+first_list xs = of_first [] (λ x others. x) xs
 
--- an operator whose logic isn't looked at any more
+-- the clauses of an operator that has no logic: a clause of it is refused, after all that was looked at before
 abbrev pub plain : OpKind → Clauses → CheckedClauses → Found CheckedClauses
 plain kind clauses part = after (logic_checked kind clauses.logic) (λ u. Ok part)
 
 abbrev pub tuple_of : Checks → List OutputAssignments → Found (Code Slot)
-tuple_of x rows = tuple_typing x.around.scope x.at (first_of x.around.schemas) (first_of x.around.outputs) rows
+tuple_of x rows = tuple_typing x.around.scope x.at (first_list x.around.schemas) (first_list x.around.outputs) rows
 
 -- what the clauses of an operator of each kind say. An Aggregate has a window, and a Join has two
 abbrev pub part_of : Checks → Clauses → List OutputAssignments → OpKind → Found CheckedClauses
@@ -185,10 +186,10 @@ part_of x clauses rows O.Punctor =
     after (there x.at (as_position (value_given x.given (codes "position")))) (λ position. plain O.Punctor clauses (A.Punctor condition position)))
 part_of x clauses rows O.Split = after (there x.at (as_code (value_given x.given (codes "index")))) (λ index. plain O.Split clauses (A.Split index))
 part_of x clauses rows O.Union =
-    after (inputs_typing x.at (first_of x.around.schemas) x.around.scope.ports) (λ places. plain O.Union clauses (A.Union places))
+    after (inputs_typing x.at (first_list x.around.schemas) x.around.scope.ports) (λ places. plain O.Union clauses (A.Union places))
 part_of x clauses rows O.Custom = after (logic_typing x.around clauses.logic) (λ handlers. Ok (A.Custom handlers))
 part_of x clauses rows O.Aggregate = of_first (bad_window x.at) (λ window others.
-    after (groups_typing x.around.scope x.at (first_of x.around.schemas) (first_of x.around.outputs) rows) (λ output.
+    after (groups_typing x.around.scope x.at (first_list x.around.schemas) (first_list x.around.outputs) rows) (λ output.
     plain O.Aggregate clauses
     (A.Aggregate window (as_places (value_given x.given (codes "partitionBy"))) (as_places (value_given x.given (codes "groupBy"))) output))) x.windows
 part_of x clauses rows O.Join = of_first (bad_window x.at) (λ left more. of_first (bad_window x.at) (λ right others.
@@ -196,15 +197,15 @@ part_of x clauses rows O.Join = of_first (bad_window x.at) (λ left more. of_fir
 
 -- the clauses of an operator whose types are these, with rows of outputs only where its kind has them
 abbrev pub clauses_checked : Op → Site → Surroundings → Clauses → Found CheckedClauses
-clauses_checked op site around clauses =
-    after (config_checked clauses.config) (λ u.
+clauses_checked op site around clauses = after (config_checked clauses.config) (λ u.
     after (windows_of_form (rules_of op.kind).window (number_literal site.scope site.follow) op.at site.scope.ports clauses.window) (λ windows.
     after (parameters_checked site op.kind (of_first false (λ p others. p.partitioned) windows) op.at clauses.parameters) (λ given.
     after (option_map_or (λ o. if is_some (rules_of op.kind).output then Ok o.what else refused E.ExtraParameter o.at (Some (codes "output")))
     clauses.output (Ok [])) (λ rows.
     part_of (record { at = op.at; around = around; windows = windows; given = given }) clauses rows op.kind))))
 
--- and of an invocation, after its ports. What its expressions may name: the unit's functions, the `$` parameters of its body, and its ports
+-- and of an invocation, after its ports. What its expressions may name: the unit's functions, the `$` parameters of its
+-- body, and its ports
 abbrev pub invocation_checked : List Definition → Graph → Tables → Op → Body → Invocation → Found CheckedClauses
 invocation_checked unit g tables op b i =
     after (if fit_ports op.kind (length i.inputs) (length i.outputs) then passed else refused E.PortCount op.at None) (λ u.
@@ -213,7 +214,7 @@ invocation_checked unit g tables op b i =
       ports = map (λ x. record { name = port_name x.0; schema = x.1 }) (zip i.inputs found.ins);
       dollars = table_at tables b.number;
     } in
-    clauses_checked op (record { scope = scope; follow = followed unit g.expansions b.number })
+    clauses_checked op (record { scope = scope; follow = expression_meant unit g.expansions b.number })
     (record { types = composite_types unit b.composite; scope = scope; outputs = map (λ o. o.name.what) i.outputs; schemas = found.outs }) i.clauses))
 
 -- each operator of the graph is that of an invocation in a body

@@ -151,9 +151,9 @@ abbrev pub definition_sets : Definition → Sets
 definition_sets (D.Type t) = kind_sets t.shape.what
 definition_sets (D.Function f) = option_map_or type_sets f.result [] ++ attribute_sets f.parameters ++ block_sets f.body
 definition_sets (D.Composite c) =
-    flat_map (λ p. option_map_or (λ h. kind_sets h.what) p.shape []) c.outputs ++ flat_map (λ p. option_map_or (λ h. kind_sets h.what) p.shape []) c.inputs
-    ++ flat_map (λ p. type_sets p.kind) c.parameters
-    ++ flat_map (λ t. kind_sets t.shape.what) c.types
+    flat_map (λ p. option_map_or (λ h. kind_sets h.what) p.shape []) c.outputs
+    ++ flat_map (λ p. option_map_or (λ h. kind_sets h.what) p.shape []) c.inputs
+    ++ flat_map (λ p. type_sets p.kind) c.parameters ++ flat_map (λ t. kind_sets t.shape.what) c.types
     ++ flat_map invocation_sets c.graph
 
 -- ---- the first that stands twice
@@ -167,7 +167,8 @@ abbrev pub first_of : {A : Type 0} → List A → Option A
 first_of [] = None
 first_of (x ∷ xs) = Some x
 
--- the first name that stands again: of the definitions, then in the sets of each composite, and then in all sets within types and statements
+-- the first name that stands again: of the definitions, then in the sets of each composite, and then in all sets within
+-- types and statements
 abbrev pub declared_twice : List Definition → Option Name
 declared_twice unit =
     first_of (map definition_name (repeated (λ before d. is_built_in d || list_any (λ e. is_same (definition_name e) (definition_name d)) before) unit)

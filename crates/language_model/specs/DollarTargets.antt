@@ -38,7 +38,8 @@ composite_of unit e = slice_get (composites unit) e.composite
 
 -- the invocation at a site
 abbrev pub invocation_at : List Definition → List Expansion → Site → Option Invocation
-invocation_at unit expansions s = option_and_then (λ c. slice_get c.graph s.invocation) (option_and_then (composite_of unit) (slice_get expansions s.expansion))
+invocation_at unit expansions s =
+    option_and_then (λ c. slice_get c.graph s.invocation) (option_and_then (composite_of unit) (slice_get expansions s.expansion))
 
 -- the arguments that an expansion has; the main one has none
 abbrev pub arguments_of : List Definition → List Expansion → Expansion → List Parameter
@@ -75,11 +76,11 @@ here_or outside Nowhere = None
 
 -- the expression in the body of the expansion at a number that is no `$` parameter. Arguments are followed at most this
 -- number of times
-abbrev pub followed_within : ℕ → List Definition → List Expansion → ℕ → Expr → Option Expr
-followed_within zero unit expansions number e = None
-followed_within (suc count) unit expansions number e =
-    option_and_then (λ x. here_or (λ argument. option_and_then (λ s. followed_within count unit expansions s.expansion argument) x.site)
+abbrev pub expression_within : ℕ → List Definition → List Expansion → ℕ → Expr → Option Expr
+expression_within zero unit expansions number e = None
+expression_within (suc count) unit expansions number e =
+    option_and_then (λ x. here_or (λ argument. option_and_then (λ s. expression_within count unit expansions s.expansion argument) x.site)
     (target (parameter_target (length (heads_of unit x)) (heads_of unit x) (arguments_of unit expansions x)) e)) (slice_get expansions number)
 
-abbrev pub followed : List Definition → List Expansion → ℕ → Expr → Option Expr
-followed unit expansions number e = followed_within (length expansions) unit expansions number e
+abbrev pub expression_meant : List Definition → List Expansion → ℕ → Expr → Option Expr
+expression_meant unit expansions number e = expression_within (length expansions) unit expansions number e

@@ -1,6 +1,6 @@
--- The values of typed expressions: of a code over names, where each name has a value. Operands are evaluated from left to
--- right, `&& || ? :` evaluate only what they need, the first fault counts, and each call of a function takes one of the
--- turns.
+-- The values of typed expressions: of a code over names, where each name has a value. Operands are evaluated from left
+-- to right, `&& || ? :` evaluate only what they need, the first fault counts, and each call of a function takes one of
+-- the turns.
 use Rattle.std.specs.Prelude.{ℕ, zero, suc, ◌==◌, Bool, true, false, if◌then◌else◌, not, List, [], ◌∷◌, map, length, Option, None, Some, slice_get}
 use Rattle.std.specs.List.{fold}
 use Rattle.std.specs.Option.{option_map, option_and_then}

@@ -1,5 +1,5 @@
--- The operators and expansions that remain of a unit once each invocation of a composite is replaced by its body, or the first
--- refusal, invocation by invocation.
+-- The operators and expansions that remain of a unit once each invocation of a composite is replaced by its body, or
+-- the first refusal, invocation by invocation.
 use Rattle.std.specs.Prelude.{ℕ, zero, suc, ◌^◌, ◌==◌, nat_lt, nat_le, ◌&&◌, List, [], ◌∷◌, ◌++◌, map, flat_map, length, sum_by, if◌then◌else◌, codes, Option, Some, None, slice_get, Result, Ok, Err}
 use Rattle.std.specs.Option.{option_map, option_map_or}
 use Rattle.std.specs.Str.{bytes_eq}
@@ -54,10 +54,11 @@ invocation_name i = option_map_or (λ n. n.what) i.alias (option_map_or (λ o. o
 abbrev pub place_of : List ℕ → List (List ℕ) → Option ℕ
 place_of name names = option_map (λ n. n.place) (first_from (λ n. bytes_eq n name) 0 names)
 
--- the names of an input port of the invocation at a site
+-- the names of the streams of an input port of an invocation
 abbrev pub names_of_port : ℕ → Invocation → List (Placed (List ℕ))
 names_of_port k i = option_map_or (λ q. q.streams) (slice_get i.inputs k) []
 
+-- those of the invocation at a site
 abbrev pub port_names : List Inlined → Site → ℕ → List (Placed (List ℕ))
 port_names es s k = option_map_or (λ e. option_map_or (names_of_port k) (slice_get e.composite.what.graph s.invocation) []) (slice_get es s.expansion) []
 
@@ -65,8 +66,8 @@ port_names es s k = option_map_or (λ e. option_map_or (names_of_port k) (slice_
 abbrev pub input_sources : (ℕ → List ℕ → List Source) → List Inlined → Option Site → ℕ → List Source
 input_sources outside es site k = option_map_or (λ s. flat_map (λ n. outside s.expansion n.what) (port_names es s k)) site []
 
--- what a name takes: the stream that the graph makes, or else what the input of that name does. Inputs are followed outwards at most this
--- number of times
+-- what a name takes: the stream that the graph makes, or else what the input of that name does. Inputs are followed
+-- outwards at most this number of times
 abbrev pub taken_in : ℕ → List Inlined → ℕ → List ℕ → List Source
 taken_in zero es number name = []
 taken_in (suc count) es number name =
@@ -79,22 +80,24 @@ sources_of es number name = taken_in (length es) es number name
 
 -- ---- operators
 
--- the operator of an invocation. Its label is the first output stream or else the alias, and an input port takes what its names do
+-- the operator of an invocation. Its label is the first output stream or else the alias, and an input port takes what
+-- its names do
 abbrev pub operation : List Inlined → Opened → ℕ → Invocation → OpKind → Operation
 operation es p number i kind =
     record {
       name = p.prefix ++ invocation_name i;
       label = p.prefix ++ option_map_or (λ o. o.name.what) (first_of i.outputs) (invocation_name i);
       kind = kind;
-      ins = map (λ q. flat_map (λ n. sources_of es p.number n.what) q.streams) i.inputs;
       outputs = length i.outputs;
-      site = record { expansion = p.number; invocation = number };
       at = i.at;
+      ins = map (λ q. flat_map (λ n. sources_of es p.number n.what) q.streams) i.inputs;
+      site = record { expansion = p.number; invocation = number };
     }
 
 -- there are at most 256 operators, and their ports take fewer than 2^30 streams together
 abbrev pub if_within : ℕ → Made → Expanded Made
-if_within at made = if nat_le (length made.ops) 256 && nat_lt (sum_by (λ op. sum_by length op.ins) made.ops) (2 ^ 30) then Ok made else Err (unnamed_refusal E.TooMany at)
+if_within at made = if nat_le (length made.ops) 256 && nat_lt (sum_by (λ op. sum_by length op.ins) made.ops) (2 ^ 30)
+    then Ok made else Err (unnamed_refusal E.TooMany at)
 
 -- ---- composites
 
@@ -145,4 +148,5 @@ main_body main = record { composite = main; site = None }
 -- where no composite reaches itself, they nest no deeper than there are composites
 abbrev pub expanded_main : List Definition → At Composite → Expanded Made
 expanded_main unit main =
-    expanded (length (composites unit)) unit (record { number = 0; prefix = []; body = main_body main }) (record { ops = []; expansions = main_body main ∷ [] })
+    expanded (length (composites unit)) unit (record { number = 0; prefix = []; body = main_body main })
+    (record { ops = []; expansions = main_body main ∷ [] })

@@ -29,7 +29,8 @@ ClosedLaw = (scope : Scope) (code : Code Slot) (t : SplType) → CodeFits no_nam
 
 -- there what it names doesn't depend on the `$` parameters
 abbrev pub ConstantLaw : Type 0
-ConstantLaw = (dollars : List Dollar) (code : Code Slot) (t : SplType) → CodeFits (record no_names { dollars = dollars }) code t → CodeFits no_names code t
+ConstantLaw = (dollars : List Dollar) (code : Code Slot) (t : SplType)
+    → CodeFits (record no_names { dollars = dollars }) code t → CodeFits no_names code t
 
 -- which is the wanted one
 abbrev pub WantedLaw : Type 0

@@ -1,5 +1,5 @@
--- The functions of a unit with the code of their bodies, in the order of the text, or the first refusal. The types of a function are
--- looked at when a call needs them, and at the latest with its body.
+-- The functions of a unit with the code of their bodies, in the order of the text, or the first refusal. The types of a
+-- function are looked at when a call needs them, and at the latest with its body.
 use Rattle.std.specs.Prelude.{ℕ, false, ◌&&◌, not, List, [], map, filter_map, if◌then◌else◌, Option, Some, None, Ok, is_some}
 use Rattle.std.specs.Option.{option_map, option_map_or}
 use Rattle.std.specs.Result.{result_err, result_ok}
@@ -34,7 +34,8 @@ function_types types f = after (option_map_or (λ t. after (type_meant types t) 
 abbrev pub signature : List ℕ → FunctionTypes → Signature
 signature name t = record { name = name; parameters = map (λ a. a.kind) t.parameters; result = t.result }
 
--- where the functions of a unit can be called, or are refused for what is wrong in their types, and nothing else can be named
+-- where the functions of a unit can be called, or are refused for what is wrong in their types, and nothing else can be
+-- named
 abbrev pub unit_scope : List Definition → Scope
 unit_scope unit = record no_names {
   functions = filter_map (λ f. option_map (signature f.name.what) (result_ok (function_types (unit_types unit) f))) (functions unit);

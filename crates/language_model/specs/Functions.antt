@@ -14,15 +14,15 @@ use Rattle.language_model.specs.Statements.{Bodies, Left, calls_by, body_leaves}
 abbrev pub function_env : List Value → Env
 function_env values = record { inputs = []; vars = values; punct = None }
 
--- what functions return, where calls of them nest at most this deep; where they would nest deeper, they run out of turns
+-- what functions return, where calls of them nest at most this deep; where they would nest deeper, they run out of
+-- turns
 abbrev pub bodies_of : List Function → ℕ → Bodies
 bodies_of functions zero i values turns = Faulted F.Turns
-bodies_of functions (suc depth) i values turns =
-    need (slice_get functions i) (λ f.
+bodies_of functions (suc depth) i values turns = need (slice_get functions i) (λ f.
     followed (body_leaves (bodies_of functions depth) f.body (function_env values) turns) (λ left turns. Done left.returned turns))
 
--- the value of a code in a world, with the turns that it leaves, or its first fault. Since each call takes a turn, calls
--- nest no deeper than there are turns
+-- the value of a code in a world, with the turns that it leaves, or its first fault. Since each call takes a turn,
+-- calls nest no deeper than there are turns
 abbrev pub value : {N : Type 0} → List Function → Code N → World N → ℕ → Outcome Value
 value functions code w turns = code_value (calls_by (bodies_of functions turns)) code w turns
 

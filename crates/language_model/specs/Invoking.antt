@@ -14,6 +14,7 @@ use Rattle.language_model.specs.Composites.{composite_named, is_empty}
 use Rattle.language_model.specs.Declarations.{repeated_names}
 use Rattle.language_model.specs.Kinds.{kind_named}
 use Rattle.language_model.specs.Mentions.{dollars, clause_mentions}
+use Rattle.language_model.specs.Names.{is_named}
 use Rattle.language_model.specs.Scopes.{At}
 
 -- ---- names
@@ -34,11 +35,8 @@ stream_names c = flat_map (λ i. map (λ o. o.name.what) i.outputs) c.graph
 abbrev pub input_names : Composite → List (List ℕ)
 input_names c = map (λ p. p.name.what) c.inputs
 
-abbrev pub is_among : List ℕ → List (List ℕ) → Bool
-is_among name names = list_any (λ n. bytes_eq n name) names
-
 abbrev pub is_parameter : Composite → List ℕ → Bool
-is_parameter c name = is_among name (map (λ p. p.name.what) c.parameters)
+is_parameter c name = is_named (map (λ p. p.name.what) c.parameters) name
 
 -- ---- what isn't declared
 
@@ -46,27 +44,27 @@ abbrev pub is_nothing : Target → Bool
 is_nothing Nothing = true
 is_nothing target = false
 
--- the names of an invocation that aren't declared: that of the operator, the streams that it reads, each of which an invocation of the
--- composite has to make or an input has to have, and the `$` parameters in its clauses, in this order
+-- the names of an invocation that aren't declared: that of the operator, the streams that it reads, each of which an
+-- invocation of the composite has to make or an input has to have, and the `$` parameters in its clauses, in this order
 abbrev pub undeclared : List Definition → Composite → Invocation → List (Placed (List ℕ))
 undeclared unit c i =
     (if is_nothing (target_of unit i.operator.what) then i.operator ∷ [] else [])
-    ++ filter (λ n. not (is_among n.what (stream_names c) || is_among n.what (input_names c))) (flat_map (λ p. p.streams) i.inputs)
+    ++ filter (λ n. not (is_named (stream_names c) n.what || is_named (input_names c) n.what)) (flat_map (λ p. p.streams) i.inputs)
     ++ filter (λ n. not (is_parameter c n.what)) (dollars (clause_mentions i.clauses))
 
 -- ---- heads
 
--- each argument has one value, and the head has a parameter of its name; no argument is given twice; and each parameter has a default or an
--- argument
+-- each argument has one value, and the head has a parameter of its name; no argument is given twice; and each parameter
+-- has a default or an argument
 abbrev pub fit_parameters : Composite → List Parameter → Bool
 fit_parameters c arguments =
     list_all (λ p. (length p.values == 1) && is_parameter c p.name.what) arguments && is_empty (repeated_names (map (λ a. a.name) arguments))
     && list_all (λ p. is_some p.default || list_any (λ a. bytes_eq a.name.what p.name.what) arguments) c.parameters
 
--- an invocation has as many ports as the head, arguments for its parameters, and beside them at most `config`; and the composite makes each
--- of its outputs
+-- an invocation has as many ports as the head, arguments for its parameters, and beside them at most `config`; and the
+-- composite makes each of its outputs
 abbrev pub fits_head : Composite → Invocation → Bool
 fits_head c i =
     (length i.outputs == length c.outputs) && (length i.inputs == length c.inputs)
     && (is_none i.clauses.logic && is_none i.clauses.window && is_none i.clauses.output) && fit_parameters c i.clauses.parameters
-    && list_all (λ p. is_among p.name.what (stream_names c)) c.outputs
+    && list_all (λ p. is_named (stream_names c) p.name.what) c.outputs

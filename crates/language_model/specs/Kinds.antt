@@ -23,8 +23,9 @@ pub record ParameterRule : Type 0 where
   pub role : Role
   pub presence : Presence
 
--- its name; how many input and output ports it has; whether tuples are passed on as they come; its parameters; and which windows its ports
--- have, what its output attributes are assigned, where it has such clauses, and whether it has logic
+-- its name; how many input and output ports it has; whether tuples are passed on as they come; its parameters; and
+-- which windows its ports have, what its output attributes are assigned, where it has such clauses, and whether it has
+-- logic
 pub record KindRules : Type 0 where
   pub name : List ℕ
   pub inputs : PortBounds
@@ -41,7 +42,7 @@ between least most = record { least = least; most = most }
 abbrev pub exactly : ℕ → PortBounds
 exactly n = between n n
 
--- one with partitions is required where the window is partitioned, and refused where it isn't
+-- a parameter: its name, what its values are, and when it may and has to be given
 abbrev pub parameter : List ℕ → Role → Presence → ParameterRule
 parameter name role presence = record { name = name; role = role; presence = presence }
 
@@ -58,7 +59,8 @@ rules_of O.FileSource = row (codes "FileSource") (exactly 0) (exactly 1) false (
 rules_of O.FileSink = row (codes "FileSink") (exactly 1) (exactly 0) false (parameter (codes "file") R.File P.Required
     ∷ parameter (codes "format") R.Format P.Optional ∷ []) None None false
 rules_of O.Filter = row (codes "Filter") (exactly 1) (exactly 1) true (parameter (codes "filter") R.Condition P.Optional ∷ []) None None false
-rules_of O.Functor = row (codes "Functor") (exactly 1) (exactly 1) false (parameter (codes "filter") R.Condition P.Optional ∷ []) None (Some F.Tuple) false
+rules_of O.Functor = row (codes "Functor") (exactly 1) (exactly 1) false
+    (parameter (codes "filter") R.Condition P.Optional ∷ []) None (Some F.Tuple) false
 rules_of O.Punctor = row (codes "Punctor") (exactly 1) (exactly 1) true (parameter (codes "punctuation") R.Condition P.Required
     ∷ parameter (codes "position") R.Position P.Required ∷ []) None None false
 rules_of O.Split = row (codes "Split") (exactly 1) (between 1 16) true (parameter (codes "index") R.Index P.Required ∷ []) None None false
@@ -66,7 +68,8 @@ rules_of O.Union = row (codes "Union") (between 1 16) (exactly 1) false [] None 
 rules_of O.Custom = row (codes "Custom") (between 1 16) (between 0 16) false [] None None true
 rules_of O.Aggregate = row (codes "Aggregate") (exactly 1) (exactly 1) false (parameter (codes "partitionBy") R.Attributes P.WithPartitions
     ∷ parameter (codes "groupBy") R.Attributes P.Optional ∷ []) (Some W.Aggregate) (Some F.Groups) false
-rules_of O.Join = row (codes "Join") (exactly 2) (exactly 1) false (parameter (codes "match") R.Condition P.Optional ∷ []) (Some W.Join) (Some F.Tuple) false
+rules_of O.Join = row (codes "Join") (exactly 2) (exactly 1) false
+    (parameter (codes "match") R.Condition P.Optional ∷ []) (Some W.Join) (Some F.Tuple) false
 
 -- ---- the code's table
 
@@ -83,7 +86,8 @@ kind_named name = find (λ kind. bytes_eq (rules_of kind).name name) KINDS
 abbrev pub is_within : PortBounds → ℕ → Bool
 is_within bounds n = nat_le bounds.least n && nat_le n bounds.most
 
--- a parameter that an operator has whose window is partitioned or isn't
+-- an operator whose window is partitioned, or isn't, has such a parameter. One with partitions is had where it is, and
+-- then needed
 abbrev pub is_had : Bool → Presence → Bool
 is_had partitioned P.WithPartitions = partitioned
 is_had partitioned _ = true

@@ -2,6 +2,7 @@ pub mod steps
 pub mod parts
 pub mod Kinds
 pub mod Scopes
+pub mod Names
 pub mod After
 pub mod Readings
 pub mod Typing
@@ -36,6 +37,7 @@ pub mod Numbering
 pub mod Taking
 pub mod DollarTargets
 pub mod SinkFiles
+pub mod Files
 pub mod Flat
 pub mod FlatLaws
 pub mod DollarLaws

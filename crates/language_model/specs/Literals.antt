@@ -22,7 +22,8 @@ level_number _ = None
 -- a number literal, or a `$` parameter that fits its type and means one
 abbrev pub level_literal : Scope → (Expr → Option Expr) → Expr → ExprKind-F ExprKind → Found (Option Number)
 level_literal scope follow e (X.Number n) = after (typing scope e None) (λ t. Ok (Some n))
-level_literal scope follow e (X.Dollar name) = after (typing scope e None) (λ t. Ok (option_and_then (λ x. level_number (out-ExprKind x.what)) (follow e)))
+level_literal scope follow e (X.Dollar name) =
+    after (typing scope e None) (λ t. Ok (option_and_then (λ x. level_number (out-ExprKind x.what)) (follow e)))
 level_literal scope follow e _ = Ok None
 
 abbrev pub number_literal : Scope → (Expr → Option Expr) → Expr → Found (Option Number)

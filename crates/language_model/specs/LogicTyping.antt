@@ -1,4 +1,5 @@
--- The logic of a Custom: the variables of its state, and then its handlers, in the order of the text; or the first refusal.
+-- The logic of a Custom: the variables of its state, and then its handlers, in the order of the text; or the first
+-- refusal.
 use Rattle.std.specs.Prelude.{ℕ, zero, suc, ◌==◌, Bool, true, false, ◌&&◌, List, [], ◌∷◌, ◌++◌, map, length, if◌then◌else◌, codes, Option, Some, None, Result, Ok, is_some}
 use Rattle.std.specs.List.{list_all}
 use Rattle.std.specs.Str.{bytes_eq}
@@ -105,8 +106,8 @@ abbrev pub handler_of : HandledEvent → ℕ → List Handled → Option (List S
 handler_of event port [] = None
 handler_of event port (h ∷ hs) = if is_event h.event event && (h.port == port) then Some h.body else handler_of event port hs
 
--- where a Custom stands: what the names of types mean, what its expressions may name besides the state, and its outputs by their names
--- and attributes
+-- where a Custom stands: what the names of types mean, what its expressions may name besides the state, and its outputs
+-- by their names and attributes
 pub record Surroundings : Type 0 where
   pub types : Types
   pub scope : Scope

@@ -1,5 +1,5 @@
--- The numbers of the streams of operators and composites that were expanded: those of an operator stand together, and operators in
--- their order.
+-- The numbers of the streams of operators and composites that were expanded: those of an operator stand together, and
+-- operators in their order.
 use Rattle.std.specs.Prelude.{ℕ, zero, suc, ◌+◌, ◌^◌, ◌==◌, min, Bool, false, ◌&&◌, List, [], ◌∷◌, ◌++◌, map, filter_map, length, take, sum_by, position, Option, Some, None, slice_get}
 use Rattle.std.specs.Option.{option_and_then, option_map_or, unwrap_or}
 use Rattle.spl_tree.specs.declared.graph.Expansion.{Expansion}
@@ -46,7 +46,8 @@ site_at number o = record { expansion = number; invocation = o.invocation }
 abbrev pub output_place : Composite → ℕ → Option ℕ
 output_place c k = option_and_then (λ p. place_of p.name.what (stream_names c)) (slice_get c.outputs k)
 
--- a stream of the operator at the site, where there is one, or else what the output means in the expansion that stands there
+-- a stream of the operator at the site, where there is one, or else what the output means in the expansion that stands
+-- there
 abbrev pub operator_or_expansion : (Source → Option ℕ) → Made → Site → ℕ → Option ℕ → Option ℕ
 operator_or_expansion inner made s k operator =
     option_map_or (λ n. Some (first_stream made.ops n + k)) operator (option_and_then
@@ -58,7 +59,8 @@ abbrev pub stream_of : ℕ → Made → Source → Option ℕ
 stream_of zero made x = None
 stream_of (suc count) made x =
     option_and_then (λ e. option_and_then (λ o.
-    operator_or_expansion (stream_of count made) made (site_at x.expansion o) o.output (position (λ op. is_site op.site (site_at x.expansion o)) made.ops))
+    operator_or_expansion (stream_of count made) made (site_at x.expansion o) o.output
+    (position (λ op. is_site op.site (site_at x.expansion o)) made.ops))
     (slice_get (outputs_from 0 e.composite.what.graph) x.place)) (slice_get made.expansions x.expansion)
 
 abbrev pub streams_of : Made → List Source → List ℕ
@@ -73,10 +75,10 @@ ops_from made n (op ∷ ops) =
     record {
       name = op.name;
       kind = op.kind;
-      ins = map (streams_of made) op.ins;
-      outs = numbers_from (first_stream made.ops n) op.outputs;
       site = op.site;
       at = op.at;
+      ins = map (streams_of made) op.ins;
+      outs = numbers_from (first_stream made.ops n) op.outputs;
     } ∷ ops_from made (suc n) ops
 
 abbrev pub streams_from : ℕ → List Operation → List Stream

@@ -1,5 +1,5 @@
--- The output attributes of an operator with what they get: those that are assigned, in the order of the text, and then the others; or the
--- first refusal.
+-- The output attributes of an operator with what they get: those that are assigned, in the order of the text, and then
+-- the others; or the first refusal.
 use Rattle.std.specs.Prelude.{ℕ, suc, ◌==◌, List, [], ◌∷◌, ◌++◌, map, fold, if◌then◌else◌, codes, Option, Some, None, Ok}
 use Rattle.std.specs.List.{list_any}
 use Rattle.std.specs.Option.{option_map, option_map_or}
@@ -40,7 +40,7 @@ bad_output at = refused E.BadOutput at None
 abbrev pub Assigns : Type 0 → Type 0
 Assigns A = Wanted → Expr → Found A
 
--- an attribute's place with what it gets
+-- the places of attributes, each with what the attribute gets
 abbrev pub Assigned : Type 0 → Type 0
 Assigned A = List (ℕ × A)
 
@@ -138,14 +138,12 @@ level_gathered scope at _ = mismatch at
 
 -- and its type is the one that is wanted
 abbrev pub assigned_group : Scope → Assigns CollectorCall
-assigned_group scope wanted e =
-    after (level_gathered scope e.at (out-ExprKind e.what)) (λ g.
+assigned_group scope wanted e = after (level_gathered scope e.at (out-ExprKind e.what)) (λ g.
     option_map_or (λ t. if same_types g.kind t then Ok g else mismatch e.at) wanted (Ok g))
 
 -- the output of an Aggregate. What has no assignment gets the attribute of the group's last tuple
 abbrev pub groups_typing : Scope → ℕ → List (Named SplType) → List ℕ → List OutputAssignments → Found (List CollectedAttribute)
-groups_typing scope at schema output rows =
-    after (rows_typing (assigned_group scope) schema output [] rows) (λ xs.
+groups_typing scope at schema output rows = after (rows_typing (assigned_group scope) schema output [] rows) (λ xs.
     after (with_others (λ a. after (taken_over scope at a) (λ code. Ok (gathers K.Last code a.kind))) schema xs) (λ all.
     Ok (map (λ x. record { attribute = x.0; collector = x.1.collector; argument = x.1.argument }) all)))
 

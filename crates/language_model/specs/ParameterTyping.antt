@@ -5,13 +5,9 @@ use Rattle.std.specs.Option.{option_map, option_map_or}
 use Rattle.std.specs.Str.{bytes_eq}
 use Rattle.spl_value.specs.declared.types.Named.{Named}
 use Rattle.spl_value.specs.declared.types.SplType.{SplType}
-use Rattle.spl_value.specs.declared.types.SplType.TheOpen as T
-use Rattle.spl_value.specs.declared.types.SplType.TheOpen.{SplType-F}
 use Rattle.spl_value.specs.declared.types.SplType.TheVariants as S
 use Rattle.spl_value.specs.declared.types.SplType.TheViews.{out-SplType}
 use Rattle.spl_value.specs.Key.{level_is_key_type}
-use Rattle.spl_tree.specs.declared.code.Code.{Code}
-use Rattle.spl_tree.specs.declared.code.Slot.{Slot}
 use Rattle.spl_tree.specs.declared.expression.ExprKind.{ExprKind}
 use Rattle.spl_tree.specs.declared.expression.ExprKind.TheOpen as X
 use Rattle.spl_tree.specs.declared.expression.ExprKind.TheOpen.{ExprKind-F}
@@ -31,7 +27,7 @@ use Rattle.language_model.specs.Kinds.{is_had, is_needed, rules_of}
 use Rattle.language_model.specs.Literals.{file_typing}
 use Rattle.language_model.specs.Policies.{of_first}
 use Rattle.language_model.specs.Scopes.{attribute_of}
-use Rattle.language_model.specs.Typing.{Found, after, looked_up, mismatch, refused, typing, unknown}
+use Rattle.language_model.specs.Typing.{Found, after, level_index, looked_up, mismatch, refused, typing, unknown}
 
 -- ---- which parameters an operator has
 
@@ -60,11 +56,8 @@ level_word _ = None
 abbrev pub word_typing : List (List ℕ × Found ParameterValue) → Expr → Found ParameterValue
 word_typing table e = option_map_or (looked_up (mismatch e.at) table) (level_word (out-ExprKind e.what)) (mismatch e.at)
 
-abbrev pub level_index : ℕ → Code Slot → SplType-F SplType → Found ParameterValue
-level_index at code (T.Int kind) = Ok (V.Code code)
-level_index at code _ = mismatch at
-
--- the place of an attribute by whose values tuples are distinguished, an integer, a boolean or a text, that isn't named before
+-- the place of an attribute by whose values tuples are distinguished, an integer, a boolean or a text, that isn't named
+-- before
 abbrev pub key_of : List (Named SplType) → List ℕ → ℕ → Option (List ℕ) → Found ℕ
 key_of schema before at word =
     option_map_or (λ name. option_map_or (λ a.
@@ -75,7 +68,8 @@ key_of schema before at word =
 abbrev pub keys_typing : List (Named SplType) → List ℕ → List Expr → Found (List ℕ)
 keys_typing schema before [] = Ok []
 keys_typing schema before (e ∷ es) =
-    after (key_of schema before e.at (level_word (out-ExprKind e.what))) (λ place. after (keys_typing schema (place ∷ before) es) (λ rest. Ok (place ∷ rest)))
+    after (key_of schema before e.at (level_word (out-ExprKind e.what))) (λ place.
+    after (keys_typing schema (place ∷ before) es) (λ rest. Ok (place ∷ rest)))
 
 -- the one value of a parameter; a second one is refused after it
 abbrev pub one_value : ℕ → (Expr → Found ParameterValue) → List Expr → Found ParameterValue
@@ -89,7 +83,7 @@ single_value site R.Format e = word_typing ((codes "csv", Ok V.Format) ∷ []) e
 single_value site R.Parsing e = word_typing ((codes "strict", Ok (V.Strict true)) ∷ (codes "permissive", Ok (V.Strict false)) ∷ []) e
 single_value site R.Position e = word_typing ((codes "before", Ok (V.Position P.Before)) ∷ (codes "after", Ok (V.Position P.After)) ∷ []) e
 single_value site R.Condition e = after (typing site.scope e (Some S.Bool)) (λ t. Ok (V.Code t.code))
-single_value site R.Index e = after (typing site.scope e None) (λ t. level_index e.at t.code (out-SplType t.kind))
+single_value site R.Index e = after (typing site.scope e None) (λ t. after (level_index e.at t.code (out-SplType t.kind)) (λ code. Ok (V.Code code)))
 single_value site R.Attributes e = mismatch e.at
 
 -- one attribute or more of the first port, or one value

@@ -1,5 +1,5 @@
--- What the `$` parameters of composites mean in each expansion: an argument, which is typed where the composite is invoked, or else
--- the default, under the type of the parameter.
+-- What the `$` parameters of composites mean in each expansion: an argument, which is typed where the composite is
+-- invoked, or else the default, under the type of the parameter.
 use Rattle.std.specs.Prelude.{ℕ, zero, suc, ◌==◌, Bool, true, false, ◌&&◌, not, List, [], ◌∷◌, ◌++◌, filter_map, length, if◌then◌else◌, Option, Some, is_some, slice_get}
 use Rattle.std.specs.List.{list_all}
 use Rattle.std.specs.Option.{option_map, option_map_or}
@@ -50,8 +50,8 @@ constant_typing given e t = if fold-ExprKind Bool level_constant e.what then typ
 
 -- ---- the parameters of one expansion
 
--- the value of a parameter is its argument, which may name the outer parameters. Without one it is the default, which may name those of
--- the composite itself, and without both the parameter is unknown
+-- the value of a parameter is its argument, which may name the outer parameters. Without one it is the default, which
+-- may name those of the composite itself, and without both the parameter is unknown
 abbrev pub parameter_typing : Types → List Dollar → List Dollar → List Parameter → CompositeParameter → Found Typed
 parameter_typing types outer own arguments p =
     after (type_meant types p.kind) (λ t. option_map_or (λ argument. constant_typing outer argument t) (value_named arguments p.name.what)
@@ -77,8 +77,9 @@ own_from passes found place [] = []
 own_from passes found place (p ∷ ps) =
     (if passes place p then record { name = p.name.what; found = found p } ∷ [] else []) ++ own_from passes found (suc place) ps
 
--- the parameters of a composite that is invoked with these arguments, where there are those of the outer one. One that leads back to
--- itself by its default has no meaning, also where another has its name. Defaults are followed at most this number of times
+-- the parameters of a composite that is invoked with these arguments, where there are those of the outer one. One that
+-- leads back to itself by its default has no meaning, also where another has its name. Defaults are followed at most
+-- this number of times
 abbrev pub own_within : ℕ → Types → List Dollar → List Parameter → List CompositeParameter → List Dollar
 own_within zero types outer arguments parameters = []
 own_within (suc count) types outer arguments parameters =
@@ -92,7 +93,8 @@ Tables = List (List Dollar)
 abbrev pub table_at : Tables → ℕ → List Dollar
 table_at tables number = option_map_or (λ table. table) (slice_get tables number) []
 
--- those of an expansion, after those of the expansions before it. A row of defaults that lead on is no longer than there are parameters
+-- those of an expansion, after those of the expansions before it. A row of defaults that lead on is no longer than
+-- there are parameters
 abbrev pub expansion_dollars : List Definition → List Expansion → Tables → Expansion → List Dollar
 expansion_dollars unit expansions before x =
     option_map_or (λ c. own_within (length c.parameters) (composite_types unit c) (option_map_or (λ s. table_at before s.expansion) x.site [])

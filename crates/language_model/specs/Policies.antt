@@ -165,7 +165,8 @@ partitioned_or_not (p ∷ ps) = if is_word (codes "partitioned") p then record {
 
 -- ---- a clause
 
--- the windows of ports, by their numbers, in the order of the text: each of a port of its name, none of one that has one
+-- the windows of ports, by their numbers, in the order of the text: each of a port of its name, none of one that has
+-- one
 abbrev pub window_of : (Port → PortWindow → Found Policy) → List ℕ → PortWindow → Option (At Port) → Found (ℕ × Policy)
 window_of policy given w o =
     option_map_or (λ port. if list_any (λ n. n == port.place) given then refused E.ExtraParameter w.port.at (Some (codes "window"))

@@ -1,5 +1,5 @@
--- What an expression is to the place in which it stands, beside its value: a name, the root of a place, a question for the marker
--- that came, or a marker.
+-- What an expression is to the place in which it stands, beside its value: a name, the root of a place, a question for
+-- the marker that came, or a marker.
 use Rattle.std.specs.Prelude.{ℕ, Bool, false, List, [], ◌∷◌, if◌then◌else◌, codes, Option, Some, None}
 use Rattle.std.specs.Str.{bytes_eq}
 use Rattle.spl_tree.specs.declared.expression.Step.{Step}

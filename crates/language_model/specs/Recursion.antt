@@ -24,7 +24,8 @@ composite_callers unit = map (λ c. record { name = c.name.what; called = map (�
 
 -- ---- calls by places
 
--- for each of some callers, the places of those among them that it calls, in the order of the text; what isn't among them is left out
+-- for each of some callers, the places of those among them that it calls, in the order of the text; what isn't among
+-- them is left out
 abbrev pub Calls : Type 0
 Calls = List (List (Placed ℕ))
 

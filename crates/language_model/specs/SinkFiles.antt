@@ -1,8 +1,8 @@
--- The files of sources and sinks, and the first that a sink has together with another operator or with the command line.
+-- The files of sources and sinks, and the first that a sink has together with another operator or with the command
+-- line.
 use Rattle.std.specs.Prelude.{ℕ, ◌==◌, Bool, ◌&&◌, ◌||◌, List, [], ◌∷◌, if◌then◌else◌, codes, Option, Some, None}
 use Rattle.std.specs.List.{list_any}
 use Rattle.std.specs.Option.{option_and_then, option_map_or}
-use Rattle.std.specs.Str.{bytes_eq}
 use Rattle.spl_tree.specs.declared.expression.ExprKind.{ExprKind}
 use Rattle.spl_tree.specs.declared.expression.ExprKind.TheOpen as X
 use Rattle.spl_tree.specs.declared.expression.ExprKind.TheOpen.{ExprKind-F}
@@ -14,8 +14,9 @@ use Rattle.spl_tree.specs.declared.graph.OpKind.{OpKind}
 use Rattle.spl_tree.specs.declared.unit.Definition.{Definition}
 use Rattle.spl_tree.specs.Trees.{placed}
 use Rattle.language_model.specs.Declarations.{is_same}
-use Rattle.language_model.specs.DollarTargets.{followed, invocation_at, value_named}
+use Rattle.language_model.specs.DollarTargets.{expression_meant, invocation_at, value_named}
 use Rattle.language_model.specs.Kinds.{rules_of}
+use Rattle.language_model.specs.Names.{is_named}
 
 -- the text that an expression is
 abbrev pub level_text : ExprKind-F ExprKind → Option (List ℕ)
@@ -25,12 +26,13 @@ level_text _ = None
 -- the file of an operator: the text that its parameter `file` means in the body of its expansion
 abbrev pub file_of : List Definition → List Expansion → Op → Option (List ℕ)
 file_of unit expansions op =
-    option_and_then (λ i. option_and_then (λ e. option_and_then (λ x. level_text (out-ExprKind x.what)) (followed unit expansions op.site.expansion e))
+    option_and_then (λ i. option_and_then (λ e.
+    option_and_then (λ x. level_text (out-ExprKind x.what)) (expression_meant unit expansions op.site.expansion e))
     (value_named i.clauses.parameters (codes "file"))) (invocation_at unit expansions op.site)
 
 -- ---- files that are had twice
 
--- an operator without outputs
+-- a kind whose operators have no output port
 abbrev pub is_sink : OpKind → Bool
 is_sink kind = (rules_of kind).outputs.most == 0
 
@@ -39,7 +41,8 @@ pub record OpFile : Type 0 where
   pub sink : Bool
   pub file : Placed (List ℕ)
 
--- a sink, or a source, an operator without inputs, that has a file
+-- the file of an operator whose kind has no output port, a sink, or no input port, a source; none where no text is its
+-- file
 abbrev pub op_file : List Definition → List Expansion → Op → List OpFile
 op_file unit expansions op =
     if is_sink op.kind || ((rules_of op.kind).inputs.most == 0)
@@ -49,4 +52,4 @@ op_file unit expansions op =
 -- a sink has a file that the command line or an operator before it has, or a source one that a sink before it has
 abbrev pub is_had : List (List ℕ) → List OpFile → OpFile → Bool
 is_had names before f =
-    (f.sink && list_any (λ n. bytes_eq n f.file.what) names) || list_any (λ g. is_same g.file f.file && (f.sink || g.sink)) before
+    (f.sink && is_named names f.file.what) || list_any (λ g. is_same g.file f.file && (f.sink || g.sink)) before

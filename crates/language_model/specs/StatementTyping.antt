@@ -1,5 +1,5 @@
--- The types of what statements have beside expressions: places that are changed, and calls whose value isn't used. Each is a code of
--- statements in its scope, or has a first refusal.
+-- The types of what statements have beside expressions: places that are changed, and calls whose value isn't used. Each
+-- is a code of statements in its scope, or has a first refusal.
 use Rattle.std.specs.Prelude.{◌==◌, ℕ, List, [], ◌∷◌, map, length, if◌then◌else◌, Option, Some, None, Ok}
 use Rattle.std.specs.Option.{option_map_or}
 use Rattle.spl_value.specs.declared.types.SplType.{SplType}

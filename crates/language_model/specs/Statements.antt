@@ -1,5 +1,5 @@
--- What statements do: from the variables, the submits so far and the turns that there are, they lead to others and to a way on. A
--- turn of a loop takes one of the turns, as a call of a function does.
+-- What statements do: from the variables, the submits so far and the turns that there are, they lead to others and to a
+-- way on. A turn of a loop takes one of the turns, as a call of a function does.
 use Rattle.std.specs.Prelude.{ℕ, zero, suc, Bool, if◌then◌else◌, List, [], ◌∷◌, ◌++◌, map, length, take, Option, None, Some, slice_get, slice_set}
 use Rattle.std.specs.Option.{option_map_or}
 use Rattle.spl_value.specs.declared.item.FaultKind.TheVariants as K
@@ -79,8 +79,7 @@ step_value bodies (T.AtKey code) s turns = followed (value_in bodies code s turn
 -- the same as in an expression: each step is taken of what the steps before it give
 abbrev pub steps_taken : Bodies → List (Selector (Code Slot)) → Value → State → ℕ → Outcome (List (Selector Value))
 steps_taken bodies [] v s turns = Done [] turns
-steps_taken bodies (t ∷ ts) v s turns =
-    followed (step_value bodies t s turns) (λ step turns.
+steps_taken bodies (t ∷ ts) v s turns = followed (step_value bodies t s turns) (λ step turns.
     followed (settled (step_of step v) turns) (λ u turns.
     followed (steps_taken bodies ts u s turns) (λ steps turns. Done (step ∷ steps) turns)))
 
@@ -91,14 +90,13 @@ change_value bodies (H.Append code) s turns = followed (value_in bodies code s t
 change_value bodies (H.Remove code) s turns = followed (value_in bodies code s turns) (λ v turns. Done (H.Remove v) turns)
 change_value bodies H.Clear s turns = Done H.Clear turns
 
--- an assignment evaluates its right side, and then the indexes and keys of the place from left to right; nothing is looked up. Every other
--- change is a call, which evaluates the place and then its argument, as a call in an expression does
+-- an assignment evaluates its right side, and then the indexes and keys of the place from left to right; nothing is
+-- looked up. Every other change is a call, which evaluates the place and then its argument, as a call in an expression
+-- does
 abbrev pub change_values : Bodies → Place → Change (Code Slot) → State → ℕ → Outcome (List (Selector Value) × Change Value)
-change_values bodies place (H.Put code) s turns =
-    followed (change_value bodies (H.Put code) s turns) (λ change turns.
+change_values bodies place (H.Put code) s turns = followed (change_value bodies (H.Put code) s turns) (λ change turns.
     followed (all_of (map (step_value bodies) place.takings) s turns) (λ steps turns. Done (steps, change) turns))
-change_values bodies place change s turns =
-    need (slice_get s.env.vars place.variable) (λ v.
+change_values bodies place change s turns = need (slice_get s.env.vars place.variable) (λ v.
     followed (steps_taken bodies place.takings v s turns) (λ steps turns.
     followed (change_value bodies change s turns) (λ change turns. Done (steps, change) turns)))
 
@@ -130,8 +128,7 @@ then_again (F.Returned v, s) turns again = Done (F.Returned v, s) turns
 
 -- where the condition is true, a turn of the body
 abbrev pub turn_while : Bodies → Code Slot → Acts → Acts → Acts
-turn_while bodies code body again s turns =
-    followed (truth_in bodies code s turns) (λ b turns.
+turn_while bodies code body again s turns = followed (truth_in bodies code s turns) (λ b turns.
     if b then enter turns (λ turns. followed (body s turns) (λ w turns. then_again w turns again)) else Done (F.Next, s) turns)
 
 -- at most this number of turns, and one more: where the number is that of the turns that there are, it is never used up
@@ -157,13 +154,12 @@ abbrev pub level_tuple : Value-F Value → Option (List Value)
 level_tuple (O.Tuple vs) = Some vs
 level_tuple _ = None
 
--- what a statement does, from what the statements in it do. A change changes what the steps of its place take of the variable; what a
--- function that is called by a statement returns isn't used
+-- what a statement does, from what the statements in it do. A change changes what the steps of its place take of the
+-- variable; what a function that is called by a statement returns isn't used
 abbrev pub level_acts : Bodies → Statement-F Acts → Acts
 level_acts bodies (S.Block row) s turns = scoped (in_order row) s turns
 level_acts bodies (S.Declare code) s turns = followed (value_in bodies code s turns) (λ v turns. Done (F.Next, declared s v) turns)
-level_acts bodies (S.Change place change) s turns =
-    followed (change_values bodies place change s turns) (λ w turns.
+level_acts bodies (S.Change place change) s turns = followed (change_values bodies place change s turns) (λ w turns.
     need (slice_get s.env.vars place.variable) (λ old.
     followed (settled (changed w.0 (change_of w.1) (Some old)) turns) (λ new turns.
     Done (F.Next, with_vars s (slice_set s.env.vars place.variable new)) turns)))
@@ -178,14 +174,17 @@ level_acts bodies (S.For code row) s turns =
 level_acts bodies S.Break s turns = Done (F.Broken, s) turns
 level_acts bodies S.Continue s turns = Done (F.Continued, s) turns
 level_acts bodies (S.Return code) s turns =
-    option_map_or (λ code. followed (value_in bodies code s turns) (λ v turns. Done (F.Returned (Some v), s) turns)) code (Done (F.Returned None, s) turns)
+    option_map_or (λ code. followed (value_in bodies code s turns) (λ v turns.
+    Done (F.Returned (Some v), s) turns)) code (Done (F.Returned None, s) turns)
 level_acts bodies (S.Submit port code) s turns =
-    followed (value_in bodies code s turns) (λ v turns. need (level_tuple (out-Value v)) (λ values. Done (F.Next, submitted s port (I.Tuple values)) turns))
+    followed (value_in bodies code s turns) (λ v turns.
+    need (level_tuple (out-Value v)) (λ values. Done (F.Next, submitted s port (I.Tuple values)) turns))
 level_acts bodies (S.SubmitWindow port) s turns = Done (F.Next, submitted s port I.Window) turns
 
 -- ---- bodies
 
--- what a body leaves: the variables that were there before it, the submits, and the value that it returned, where it did
+-- what a body leaves: the variables that were there before it, the submits, and the value that it returned, where it
+-- did
 pub record Left : Type 0 where
   pub vars : List Value
   pub submits : List Output

@@ -56,7 +56,8 @@ pub record Body : Type 0 where
 
 abbrev pub body_at : List Definition → Graph → ℕ → Option Body
 body_at unit g number =
-    option_and_then (λ x. option_map (λ c. record { number = number; expansion = x; composite = c }) (composite_of unit x)) (slice_get g.expansions number)
+    option_and_then (λ x. option_map (λ c. record { number = number; expansion = x; composite = c })
+    (composite_of unit x)) (slice_get g.expansions number)
 
 -- the stream that a name means in a body: one that its graph makes, or the first that an input takes
 abbrev pub stream_in : Body → List ℕ → Option ℕ
@@ -128,8 +129,8 @@ abbrev pub shape_matches : List Definition → Graph → Body → Attributes →
 shape_matches unit g b schema shape =
     after (shape_attributes (stream_attributes unit g) unit g b shape) (λ given. if same_attributes given schema then passed else mismatch shape.at)
 
--- what is looked at for a port of a head: its shape, where it has one, has to mean these attributes, and then what `outside` looks at, at
--- the invocation of the composite in the body around it
+-- what is looked at for a port of a head: its shape, where it has one, has to mean these attributes, and then what
+-- `outside` looks at, at the invocation of the composite in the body around it
 abbrev pub head_port : (Body → Invocation → Passes) → List Definition → Graph → Attributes → Body → Option HeadPort → Passes
 head_port outside unit g schema b port =
     after (option_map_or (λ p. option_map_or (shape_matches unit g b schema) p.shape passed) port passed) (λ u. option_map_or
@@ -138,8 +139,8 @@ head_port outside unit g schema b port =
 
 -- ---- outputs of heads
 
--- where a stream of a body is an output of its head, that says its type, and the invocation of the composite, and so on outwards. At most
--- this number of heads are around it
+-- where a stream of a body is an output of its head, that says its type, and the invocation of the composite, and so on
+-- outwards. At most this number of heads are around it
 abbrev pub output_heads : ℕ → List Definition → Graph → Attributes → Body → List ℕ → Passes
 output_heads zero unit g schema b name = passed
 output_heads (suc count) unit g schema b name =
@@ -167,7 +168,8 @@ input_heads (suc count) unit g schema b name =
 -- how many streams a name means: one that the graph makes, or those that the input takes
 abbrev pub taken_by : Body → List ℕ → Option ℕ → ℕ
 taken_by b name own =
-    option_map_or (λ place. 1) own (option_map_or (λ i. i.count) (option_and_then (slice_get b.expansion.inputs) (place_of name (input_names b.composite))) 0)
+    option_map_or (λ place. 1) own
+    (option_map_or (λ i. i.count) (option_and_then (slice_get b.expansion.inputs) (place_of name (input_names b.composite))) 0)
 
 -- for each stream of a port the place of the name by which it is taken
 abbrev pub name_places : Body → InputPort → List ℕ
@@ -179,7 +181,8 @@ are_alike unit g schema (at ∷ places) (s ∷ streams) =
     after (stream_attributes unit g s) (λ own. if same_attributes own schema then are_alike unit g schema places streams else mismatch at)
 are_alike unit g schema places streams = passed
 
--- the attributes of a port: those of its first stream, which the others have too, and which each typed head on their way has
+-- the attributes of a port: those of its first stream, which the others have too, and which each typed head on their
+-- way has
 abbrev pub port_attributes : List Definition → Graph → Body → InputPort → List ℕ → Found Attributes
 port_attributes unit g b q [] = mismatch 0
 port_attributes unit g b q (s ∷ streams) =

@@ -1,5 +1,5 @@
--- What types mean as they are written, or the first refusal in them, in the order of the text. A name means the shape of its
--- definition: one of the composite, or else one of the unit.
+-- What types mean as they are written, or the first refusal in them, in the order of the text. A name means the shape
+-- of its definition: one of the composite, or else one of the unit.
 use Rattle.std.specs.Prelude.{ℕ, zero, suc, List, [], ◌∷◌, ◌++◌, map, flat_map, filter_map, length, if◌then◌else◌, Option, Some, None, Ok, slice_get}
 use Rattle.std.specs.Option.{option_map, option_map_or}
 use Rattle.std.specs.Str.{bytes_eq}
@@ -100,17 +100,19 @@ definition_of definitions name = first_from (λ d. bytes_eq d.name.what name) 0 
 
 -- the places of the definitions whose names stand in the one at a place
 abbrev pub leads_to : List TypeDefinition → ℕ → List ℕ
-leads_to definitions place = option_map_or (λ d. filter_map (λ name. option_map (λ e. e.place) (definition_of definitions name)) (kind_names d.shape.what))
+leads_to definitions place = option_map_or (λ d. filter_map (λ name.
+    option_map (λ e. e.place) (definition_of definitions name)) (kind_names d.shape.what))
     (slice_get definitions place) []
 
--- a name that has no definition here means what it does outside, and one whose definition leads back to itself means nothing. Definitions
--- are followed at most this number of times
+-- a name that has no definition here means what it does outside, and one whose definition leads back to itself means
+-- nothing. Definitions are followed at most this number of times
 abbrev pub types_within : ℕ → List TypeDefinition → Types → Types
 types_within zero definitions outside at name = unknown at name
 types_within (suc count) definitions outside at name = option_map_or (λ d. if leads_back (length definitions) (leads_to definitions) d.place
     then unknown at name else shape_meant (types_within count definitions outside) d.what.shape) (definition_of definitions name) (outside at name)
 
--- what names mean where these are defined. A row of definitions none of which leads back to itself is no longer than there are
+-- what names mean where these are defined. A row of definitions none of which leads back to itself is no longer than
+-- there are
 abbrev pub types_of : List TypeDefinition → Types → Types
 types_of definitions outside = types_within (suc (length definitions)) definitions outside
 

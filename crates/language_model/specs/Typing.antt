@@ -1,7 +1,11 @@
--- The types of expressions, and their code. An expression has a type and a code in a scope, under the type that its place
--- wants, where it wants one. Else it has a first refusal: parts are looked at from left to right and the inner ones first,
--- except that a literal whose form the wanted type doesn't have, and a call with another number of arguments than the
--- called one takes, are refused before their parts.
+-- The types of expressions, and their code. An expression has a type and a code in a scope, under the type that its
+-- place wants, where it wants one. Else it has a first refusal: its parts are looked at from left to right, the inner
+-- ones first, and it itself after them. But before its parts are refused a list, a map or a tuple that isn't of the
+-- wanted form, that is empty where no type is wanted, or that has two attributes of one name; a call of what isn't
+-- known; and one with another number of arguments than the called one takes. And what can't be on a part of the type
+-- that was found is refused before the next part: an operator other than `in` on its left operand, a built-in call on
+-- its first argument, and a member or an index on what stands before it. Of the comparison of `currentPunct()` with a
+-- marker, where one has come, no part is looked at.
 use Rattle.std.specs.Prelude.{ℕ, suc, pos, nat_lt, Bool, true, false, ◌&&◌, not, List, [], ◌∷◌, length, if◌then◌else◌, codes, Option, Some, None, is_some, Result, Ok, Err, ◌==◌}
 use Rattle.std.specs.List.{list_all, zip}
 use Rattle.std.specs.Cmp.Lexicographic.{pointwise}
@@ -108,7 +112,8 @@ as_wanted at (Some u) t = if same_types t.kind u then Ok t else mismatch at
 
 -- ---- expressions as parts of others
 
--- an expression inside another one: itself, and the type and code that it has at a place in a scope, under what is wanted there
+-- an expression inside another one: itself, and the type and code that it has at a place in a scope, under what is
+-- wanted there
 abbrev pub Part : Type 0
 Part = ExprKind × (ℕ → Scope → Wanted → Found Typed)
 
@@ -137,8 +142,8 @@ pub data Wants (A : Type 0) : Type 0 where
   This : A → Wants A
   Another : Wants A
 
--- the form of a literal in the wanted type: the type of the elements of a list, those of the keys and values of a map, and the
--- attributes of a tuple
+-- the form of a literal in the wanted type: the type of the elements of a list, those of the keys and values of a map,
+-- and the attributes of a tuple
 abbrev pub level_element : SplType-F SplType → Wants SplType
 level_element (T.List t) = This t
 level_element _ = Another
@@ -169,7 +174,8 @@ list_typed at scope Anything (e ∷ es) =
 abbrev pub entries_typed : Scope → SplType → SplType → List (Placed Part × Placed Part) → Found (List (Code Slot × Code Slot))
 entries_typed scope k t [] = Ok []
 entries_typed scope k t (e ∷ es) =
-    after (part_typed e.0 scope (Some k)) (λ x. after (part_typed e.1 scope (Some t)) (λ y. after (entries_typed scope k t es) (λ xs. Ok ((x.code, y.code) ∷ xs))))
+    after (part_typed e.0 scope (Some k)) (λ x. after (part_typed e.1 scope (Some t)) (λ y.
+    after (entries_typed scope k t es) (λ xs. Ok ((x.code, y.code) ∷ xs))))
 
 abbrev pub map_typed : ℕ → Scope → Wants (SplType × SplType) → List (Placed Part × Placed Part) → Found Typed
 map_typed at scope Another es = mismatch at
@@ -198,7 +204,8 @@ fields_typed scope schema fs =
 abbrev pub own_fields : Scope → ℕ → List (Field (Placed Part)) → Found (List (Named SplType) × List (ℕ × Code Slot))
 own_fields scope i [] = Ok ([], [])
 own_fields scope i (f ∷ fs) =
-    after (part_typed f.value scope None) (λ x. after (own_fields scope (suc i) fs) (λ xs. Ok (record { name = f.name.what; kind = x.kind } ∷ xs.0, (i, x.code) ∷ xs.1)))
+    after (part_typed f.value scope None) (λ x. after (own_fields scope (suc i) fs) (λ xs.
+    Ok (record { name = f.name.what; kind = x.kind } ∷ xs.0, (i, x.code) ∷ xs.1)))
 
 abbrev pub tuple_typed : ℕ → Scope → Wants (List (Named SplType)) → List (Field (Placed Part)) → Found Typed
 tuple_typed at scope Another fs = mismatch at
@@ -264,8 +271,7 @@ prefixes_at (p ∷ ps) operand = p.at
 -- prefixes, the outermost first, on a type
 abbrev pub prefixes_typed : List (Placed PrefixOperator) → ℕ → SplType → Found (List UnaryCode × SplType)
 prefixes_typed [] operand t = Ok ([], t)
-prefixes_typed (p ∷ ps) operand t =
-    after (prefixes_typed ps operand t) (λ xs.
+prefixes_typed (p ∷ ps) operand t = after (prefixes_typed ps operand t) (λ xs.
     after (option_map_or (λ x. Ok x) (level_prefix p.what (out-SplType xs.1)) (mismatch (prefixes_at ps operand))) (λ x. Ok (x.0 ∷ xs.0, x.1)))
 
 -- ---- operators between two operands
@@ -345,8 +351,7 @@ not_callable at name refusal = option_map_or (λ r. Err r) refusal (unknown at n
 
 -- a call of a function gives a value of its type, or nothing
 abbrev pub function_typed : ℕ → Scope → List ℕ → List (Placed Part) → Option (At Signature) → Found Typed
-function_typed at scope name es found =
-    option_map_or (λ f. if length es == length f.what.parameters
+function_typed at scope name es found = option_map_or (λ f. if length es == length f.what.parameters
     then after (arguments_typed scope f.what.parameters es) (λ xs. option_map_or (λ t. Ok (typed t (C.Call f.place xs))) f.what.result (mismatch at))
     else wrong_call at) found (not_callable at name (unresolved_of scope name))
 
@@ -365,8 +370,8 @@ call_of name =
 abbrev pub int32 : SplType
 int32 = S.Int I32
 
--- a call on a first argument of a class of types: what it is on this one, its type, and the types that the others have to
--- have; none where the type isn't of the class
+-- a call on a first argument of a class of types: what it is on this one, its type, and the types that the others have
+-- to have; none where the type isn't of the class
 abbrev pub OnFirst : Type 0
 OnFirst = Option (BuiltIn × SplType × List SplType)
 
@@ -425,11 +430,15 @@ abbrev pub arguments_of : ℕ → Scope → CallName → List (Placed Part) → 
 arguments_of at scope A.Length es = fixed_typed scope Q.Length int32 (S.Text ∷ []) es
 arguments_of at scope A.Substring es = fixed_typed scope Q.Substring S.Text (S.Text ∷ int32 ∷ int32 ∷ []) es
 arguments_of at scope A.CurrentPunct es = wrong_call at
-arguments_of at scope A.AppendM (e ∷ es) = no_value at (after (part_typed e scope None) (λ x. changed_typed at scope e es (level_changed A.AppendM (out-SplType x.kind))))
-arguments_of at scope A.RemoveM (e ∷ es) = no_value at (after (part_typed e scope None) (λ x. changed_typed at scope e es (level_changed A.RemoveM (out-SplType x.kind))))
-arguments_of at scope A.ClearM (e ∷ es) = no_value at (after (part_typed e scope None) (λ x. changed_typed at scope e es (level_changed A.ClearM (out-SplType x.kind))))
+arguments_of at scope A.AppendM (e ∷ es) = no_value at
+    (after (part_typed e scope None) (λ x. changed_typed at scope e es (level_changed A.AppendM (out-SplType x.kind))))
+arguments_of at scope A.RemoveM (e ∷ es) = no_value at
+    (after (part_typed e scope None) (λ x. changed_typed at scope e es (level_changed A.RemoveM (out-SplType x.kind))))
+arguments_of at scope A.ClearM (e ∷ es) = no_value at
+    (after (part_typed e scope None) (λ x. changed_typed at scope e es (level_changed A.ClearM (out-SplType x.kind))))
 arguments_of at scope call (e ∷ es) =
-    after (part_typed e scope None) (λ x. option_map_or (λ on. after (arguments_typed scope on.2 es) (λ xs. Ok (typed on.1 (C.BuiltIn on.0 (x.code ∷ xs)))))
+    after (part_typed e scope None) (λ x. option_map_or (λ on.
+    after (arguments_typed scope on.2 es) (λ xs. Ok (typed on.1 (C.BuiltIn on.0 (x.code ∷ xs)))))
     (level_first call x.kind (out-SplType x.kind)) (wrong_call at))
 arguments_of at scope call [] = wrong_call at
 
@@ -441,7 +450,8 @@ built_in_typed at scope call es = if length es == argument_count call then argum
 -- an expression by its parts, each of which stands before its own type and code
 abbrev pub level_typed : ExprKind-F Part → ℕ → Scope → Wanted → Found Typed
 level_typed (X.Name name) at scope wanted = after (meant_typed at name (meant scope name)) (as_wanted at wanted)
-level_typed (X.Dollar name) at scope wanted = after (option_map_or (λ found. found) (dollar_of scope.dollars name) (unknown at name)) (as_wanted at wanted)
+level_typed (X.Dollar name) at scope wanted =
+    after (option_map_or (λ found. found) (dollar_of scope.dollars name) (unknown at name)) (as_wanted at wanted)
 level_typed (X.Number n) at scope wanted = after (number_typed at n) (as_wanted at wanted)
 level_typed (X.Text bytes) at scope wanted = as_wanted at wanted (typed S.Text (C.Literal (V.Text bytes)))
 level_typed (X.Bool b) at scope wanted = as_wanted at wanted (typed S.Bool (C.Literal (V.Bool b)))
@@ -455,7 +465,8 @@ level_typed (X.Call name es) at scope wanted =
 level_typed (X.Select base steps) at scope wanted =
     after (of_port (option_map_or (meant scope) (name_of base.what.0) Nothing) base scope steps) (as_wanted at wanted)
 level_typed (X.Unary ps e) at scope wanted =
-    after (after (part_typed e scope None) (λ x. after (prefixes_typed ps e.at x.kind) (λ xs. Ok (typed xs.1 (C.Unary xs.0 x.code))))) (as_wanted at wanted)
+    after (after (part_typed e scope None) (λ x. after (prefixes_typed ps e.at x.kind) (λ xs.
+    Ok (typed xs.1 (C.Unary xs.0 x.code))))) (as_wanted at wanted)
 level_typed (X.Binary op left right) at scope wanted =
     after (option_map_or (λ code. Ok (typed S.Bool code)) (marker_asked (scope.punct && asks_punct left.what.0) op (named_marker right.what.0))
     (binary_typed scope op left right)) (as_wanted at wanted)

@@ -19,7 +19,7 @@ use Rattle.list_engine.specs.declared.operator.Given.{Given}
 use Rattle.list_engine.specs.declared.run_order.Order.{Order}
 use Rattle.list_engine.specs.declared.state.State.{State}
 use Rattle.list_engine.specs.RunOrders.{Follows}
-use Rattle.list_engine.specs.Runs.{rows_at}
+use Rattle.stream_model.specs.Runs.{rows_at}
 use Rattle.list_engine.specs.steps.Faults.{fault_at}
 use Rattle.list_engine.specs.steps.Keeping.{IsKept}
 use Rattle.list_engine.specs.steps.Reading.{ops_at}

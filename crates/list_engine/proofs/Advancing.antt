@@ -21,7 +21,8 @@ use Rattle.stream_model.proofs.CheckedOperators.{OperatorAt}
 use Rattle.spl_value.proofs.Lists.{contains_here, contains_later}
 use Rattle.list_engine.specs.declared.operator.Given.{Given}
 use Rattle.list_engine.specs.declared.state.State.{State}
-use Rattle.list_engine.specs.Runs.{is_source, rows_at}
+use Rattle.list_engine.specs.Runs.{is_source}
+use Rattle.stream_model.specs.Runs.{rows_at}
 use Rattle.list_engine.specs.steps.Faults.{fault_at}
 use Rattle.list_engine.specs.steps.Keeping.{IsKept}
 use Rattle.list_engine.specs.steps.Reading.{ops_at}

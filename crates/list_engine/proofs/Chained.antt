@@ -37,7 +37,8 @@ use Rattle.language_model.specs.parts.Literals.{is_file_name}
 use Rattle.stream_model.specs.Operators.{Operator, output_attributes}
 use Rattle.stream_model.specs.Stream.{Event, is_closed, TuplesFit}
 use Rattle.list_engine.specs.examples.Chain.{numbers, divides, chain, chain_graph, chain_operators, chain_rows}
-use Rattle.list_engine.specs.Runs.{AreOperators, RowsFit, is_source, rows_at}
+use Rattle.list_engine.specs.Runs.{AreOperators, is_source}
+use Rattle.stream_model.specs.Runs.{RowsFit, rows_at}
 
 abbrev flat : Flat
 flat = chain.graph

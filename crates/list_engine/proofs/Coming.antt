@@ -5,7 +5,8 @@ use Rattle.std.proofs.lemmas.List.{reverse-append, reverse-reverse}
 use Rattle.spl_value.specs.declared.item.Item.{Item}
 use Rattle.spl_value.specs.declared.item.Item.TheVariants as I
 use Rattle.language_model.specs.StreamTypes.{Attributes}
-use Rattle.stream_model.specs.Stream.{Event, came, closes, any_closes, is_closed, is_empty, TuplesFit}
+use Rattle.stream_model.specs.Stream.{Event, came, any_closes, is_closed, is_empty, TuplesFit}
+use Rattle.spl_value.specs.Numbered.{closes}
 use Rattle.stream_model.specs.Inputs.{came_on}
 use Rattle.stream_model.specs.Operators.{Operator}
 use Rattle.stream_model.specs.Replies.{ItemHas, MayTake}
@@ -29,9 +30,9 @@ open_front (I.Bad f ∷ taken) x rest h = absurd (not_empty taken x rest h)
 
 pub fit_at : (schema : Attributes) (taken : List Item) (x : Item) (rest : List Item) → TuplesFit schema (taken ++ x ∷ rest) → ItemHas schema x
 fit_at schema [] (I.Tuple vs) rest h = h.0
-fit_at schema [] I.Window rest h = tt
-fit_at schema [] I.Final rest h = tt
-fit_at schema [] (I.Bad f) rest h = tt
+fit_at schema [] I.Window rest h = refl
+fit_at schema [] I.Final rest h = refl
+fit_at schema [] (I.Bad f) rest h = refl
 fit_at schema (I.Tuple vs ∷ taken) x rest h = fit_at schema taken x rest h.1
 fit_at schema (I.Window ∷ taken) x rest h = fit_at schema taken x rest h
 fit_at schema (I.Final ∷ taken) x rest h = fit_at schema taken x rest h

@@ -18,10 +18,11 @@ use Rattle.stream_model.specs.parts.Ends.{operator_fault}
 use Rattle.stream_model.specs.Meaning.{Lists, Entries, Meaning, arrive, events_at, events_of, in_topo, lists_at, made_by, makes, meaning, streams_of, taking}
 use Rattle.stream_model.proofs.parts.Meaning.{with_list}
 use Rattle.stream_model.specs.Operators.{Operator, connections}
-use Rattle.stream_model.specs.PortEvents.{is_last, is_waiting}
+use Rattle.stream_model.specs.PortEvents.{ends_all, is_waiting}
 use Rattle.stream_model.specs.React.{Reaction, Gives, Faults, answered, body, ended, own_fault, react}
 use Rattle.stream_model.specs.Stages.{gives_all, next, on_port, out, start}
-use Rattle.stream_model.specs.Stream.{Event, came, closes, is_fault}
+use Rattle.stream_model.specs.Stream.{Event, came, is_fault}
+use Rattle.spl_value.specs.Numbered.{closes}
 use Rattle.stream_model.proofs.Closings.{end_item_law}
 use Rattle.stream_model.proofs.Graphs.{events_law}
 use Rattle.stream_model.proofs.KindBodies.{body_law}
@@ -97,10 +98,10 @@ module _ (count : ℕ) (op : Operator) (named : op.number < count) where
   react_within : (earlier : List Event) (e : Event) → ItemWithin count e.item → OutsWithin count (react op earlier e)
   react_within earlier e h = go (is_fault e.item) (is_waiting op earlier e)
     where
-      go : (f w : Bool) → OutsWithin count (if f then on_each (length op.outs) e.item else if w then [] else answered op (is_last op earlier e) (body op earlier e))
+      go : (f w : Bool) → OutsWithin count (if f then on_each (length op.outs) e.item else if w then [] else answered op (ends_all op earlier e) (body op earlier e))
       go true w = each_within count (length op.outs) e.item h
       go false true = tt
-      go false false = answered_within (is_last op earlier e) earlier e
+      go false false = answered_within (ends_all op earlier e) earlier e
 
   stage_within : (seen : List Event) (over : Bool) (events : List Event) → EventsWithin count events → OutsWithin count (gives_all (record { op = op; seen = seen; over = over }) events)
   stage_within seen over [] h = tt

@@ -15,7 +15,7 @@ use Rattle.stream_model.specs.Meaning.{Graph, Entries, Meaning}
 use Rattle.stream_model.specs.Operators.{Operator}
 use Rattle.spl_value.proofs.Lists.{next_rest as front_of, drop_past}
 use Rattle.list_engine.specs.declared.state.State.{State}
-use Rattle.list_engine.specs.Runs.{rows_at}
+use Rattle.stream_model.specs.Runs.{rows_at}
 use Rattle.list_engine.specs.steps.Faults.{fault_at, kept_fault, kept_faults, unread_fault, unread_faults}
 use Rattle.list_engine.specs.steps.Running.{Means}
 use Rattle.list_engine.proofs.GraphOperators.{operator_there}

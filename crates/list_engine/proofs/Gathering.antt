@@ -12,7 +12,7 @@ use Rattle.stream_model.specs.CheckedMeaning.{graph_of}
 use Rattle.stream_model.specs.Ends.{is_read}
 use Rattle.stream_model.specs.Meaning.{Graph}
 use Rattle.spl_value.proofs.Lists.{contains_here, take_at}
-use Rattle.list_engine.specs.Runs.{rows_at}
+use Rattle.stream_model.specs.Runs.{rows_at}
 use Rattle.list_engine.specs.steps.Reading.{ops_at}
 use Rattle.list_engine.specs.steps.Table.{LeftBehind, StaysFor}
 use Rattle.list_engine.proofs.Places.{get_set_other, set_length}

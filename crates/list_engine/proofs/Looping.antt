@@ -20,7 +20,8 @@ use Rattle.spl_value.proofs.Lists.{contains_here, contains_later, get_below}
 use Rattle.list_engine.specs.declared.run_order.Order.{Order}
 use Rattle.list_engine.specs.declared.state.State.{State}
 use Rattle.list_engine.specs.RunOrders.{AreInOrder}
-use Rattle.list_engine.specs.Runs.{AreOperators, AreWhole, RowsFit, SinksGiven, is_source, rows_at}
+use Rattle.list_engine.specs.Runs.{AreOperators, is_source}
+use Rattle.stream_model.specs.Runs.{AreWhole, RowsFit, SinksGiven, rows_at}
 use Rattle.list_engine.specs.steps.Faults.{kept_faults}
 use Rattle.list_engine.specs.steps.Reading.{ops_at}
 use Rattle.list_engine.specs.steps.Recording.{lists_from}

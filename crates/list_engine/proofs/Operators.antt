@@ -26,7 +26,8 @@ use Rattle.stream_model.proofs.Closings.{out_closes}
 use Rattle.stream_model.proofs.CheckedOperators.{OperatorAt}
 use Rattle.stream_model.proofs.Graphs.{graph_law, events_law}
 use Rattle.list_engine.specs.declared.operator.Given.{Given}
-use Rattle.list_engine.specs.Runs.{is_source, rows_at}
+use Rattle.list_engine.specs.Runs.{is_source}
+use Rattle.stream_model.specs.Runs.{rows_at}
 use Rattle.list_engine.specs.steps.Keeping.{kept_ports}
 use Rattle.list_engine.specs.steps.Reading.{ops_at}
 use Rattle.list_engine.specs.declared.run_order.Order.{Order}

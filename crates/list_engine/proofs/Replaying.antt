@@ -31,7 +31,7 @@ use Rattle.list_engine.specs.declared.operator.Standing.TheVariants.{Live, Ended
 use Rattle.list_engine.specs.declared.run_order.Order.{Order}
 use Rattle.list_engine.specs.declared.run_order.Order.TheVariants.{InTurn, Recorded}
 use Rattle.list_engine.specs.declared.run_order.RunAnswer.{RunAnswer}
-use Rattle.list_engine.specs.Runs.{rows_at}
+use Rattle.stream_model.specs.Runs.{rows_at}
 use Rattle.list_engine.specs.RunOrders.{Follows}
 use Rattle.list_engine.specs.steps.Replaying.{RanIn, Replayed, TakesLast}
 use Rattle.list_engine.specs.steps.Taking.{AreInputs, EndsBy, EndsOnce, HasGiven, Ran, Reached, Task, in_turn}

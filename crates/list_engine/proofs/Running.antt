@@ -28,8 +28,9 @@ use Rattle.list_engine.specs.declared.run_order.Order.TheVariants.{InTurn, Recor
 use Rattle.list_engine.specs.declared.run_order.RunAnswer.{RunAnswer}
 use Rattle.list_engine.specs.declared.run_order.RunAnswer.TheVariants.{NotWhole, Memory}
 use Rattle.list_engine.specs.declared.state.State.{State}
-use Rattle.list_engine.specs.RunOrders.{Follows, IsFirstNotWhole, StopsRun}
-use Rattle.list_engine.specs.Runs.{is_source, rows_at}
+use Rattle.list_engine.specs.RunOrders.{Follows, StopsRun}
+use Rattle.stream_model.specs.Runs.{IsFirstNotWhole, rows_at}
+use Rattle.list_engine.specs.Runs.{is_source}
 use Rattle.list_engine.specs.steps.Keeping.{GivesNothing, HasRoom, IsKept, kept_ports}
 use Rattle.list_engine.specs.steps.Recording.{entries_at}
 use Rattle.list_engine.specs.steps.Replaying.{FailsOn, RanIn, Stops}

@@ -7,7 +7,7 @@ use Rattle.stream_model.specs.Arrivals.{has_several}
 use Rattle.stream_model.specs.Meaning.{Lists, Entries, arrive, events_at, events_of, in_topo, lists_at, made_by, streams_of}
 use Rattle.stream_model.proofs.parts.Meaning.{events_of_number}
 use Rattle.stream_model.specs.Operators.{Operator, connections}
-use Rattle.list_engine.specs.RunLaws.{SameRecordsLaw}
+use Rattle.stream_model.specs.RunLaws.{SameRecordsLaw}
 
 -- ---- one operator
 

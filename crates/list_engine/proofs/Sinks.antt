@@ -13,7 +13,7 @@ use Rattle.stream_model.specs.Bodies.{on_each}
 use Rattle.stream_model.specs.parts.Bodies.{sink_body}
 use Rattle.stream_model.specs.Operators.{Operator, ports}
 use Rattle.stream_model.specs.parts.Operators.{port_at}
-use Rattle.stream_model.specs.PortEvents.{is_last, is_waiting, port_events}
+use Rattle.stream_model.specs.PortEvents.{ends_all, is_waiting, port_events}
 use Rattle.stream_model.specs.React.{Reaction, Gives, Faults, answer, answered, body, ended, makes_by, own_fault, react}
 use Rattle.stream_model.specs.Stages.{gives_all, next, on_port, out, start}
 use Rattle.stream_model.specs.Stream.{Event, is_fault, is_tuple}
@@ -72,10 +72,10 @@ module _ (op : Operator) (file : List ℕ) (kind : op.clauses ≡ A.FileSink fil
   react_tuples : (earlier : List Event) (e : Event) → all_tuples (react op earlier e) ≡ true
   react_tuples earlier e = go (is_fault e.item) (is_waiting op earlier e)
     where
-      go : (f w : Bool) → all_tuples (if f then on_each (length op.outs) e.item else if w then [] else answered op (is_last op earlier e) (body op earlier e)) ≡ true
+      go : (f w : Bool) → all_tuples (if f then on_each (length op.outs) e.item else if w then [] else answered op (ends_all op earlier e) (body op earlier e)) ≡ true
       go true w = ap all_tuples (no_port e.item)
       go false true = refl
-      go false false = given_tuples (is_last op earlier e) (body op earlier e) (subst AnswersTuples (sym (body_is earlier e)) (body_tuples e.item))
+      go false false = given_tuples (ends_all op earlier e) (body op earlier e) (subst AnswersTuples (sym (body_is earlier e)) (body_tuples e.item))
 
   stage_tuples : (seen : List Event) (over : Bool) (events : List Event) → all_tuples (gives_all (record { op = op; seen = seen; over = over }) events) ≡ true
   stage_tuples seen over [] = refl

@@ -12,7 +12,7 @@ use Rattle.stream_model.specs.Meaning.{Lists}
 use Rattle.stream_model.proofs.OneAfterAnother.{events_from, all_end}
 use Rattle.list_engine.specs.declared.operator.Given.{Given}
 use Rattle.list_engine.specs.declared.operator.Standing.TheVariants.{Live, Ended}
-use Rattle.list_engine.specs.Runs.{rows_at}
+use Rattle.stream_model.specs.Runs.{rows_at}
 use Rattle.list_engine.specs.steps.Taking.{AreInputs, MayCome, Ran, Reached, Task, Took, in_turn}
 use Rattle.list_engine.proofs.Coming.{closed_once}
 use Rattle.list_engine.proofs.Taking.{map_append}

@@ -1,5 +1,5 @@
 -- What holds of each graph that is run.
-use Rattle.std.specs.Prelude.{◌≡◌, ◌<◌, ⊤, ℕ, Bool, true, List, [], ◌∷◌, length, Some, slice_get}
+use Rattle.std.specs.Prelude.{◌≡◌, ◌<◌, ⊤, ℕ, Bool, List, [], ◌∷◌, length, Some, slice_get}
 use Rattle.std.specs.List.{count_by}
 use Rattle.spl_value.specs.declared.item.Fault.{Fault}
 use Rattle.spl_value.specs.declared.item.Item.{Item}
@@ -7,29 +7,17 @@ use Rattle.spl_value.specs.declared.item.Item.TheVariants as I
 use Rattle.language_model.specs.declared.checked.CheckedClauses.TheVariants as A
 use Rattle.language_model.specs.CheckedGraph.{CheckedGraph}
 use Rattle.language_model.specs.Keeping.{Keeps}
-use Rattle.stream_model.specs.Arrivals.{has_several}
 use Rattle.stream_model.specs.CheckedMeaning.{graph_of}
 use Rattle.stream_model.specs.Ends.{run_fault}
-use Rattle.stream_model.specs.Laws.{IsNumbered, IsOrdered}
-use Rattle.stream_model.specs.Meaning.{Graph, Lists, Entries, in_topo, meaning}
-use Rattle.stream_model.specs.Operators.{Operator, connections}
+use Rattle.stream_model.specs.Meaning.{Graph, Lists, Entries, meaning}
+use Rattle.stream_model.specs.Operators.{Operator}
 use Rattle.stream_model.specs.Stages.{out}
 use Rattle.stream_model.specs.Stream.{Event, is_tuple}
-
--- the operators of a checked graph can be taken in its order, and have the numbers of their places
-abbrev pub OrderedLaw : Type 0
-OrderedLaw = (c : CheckedGraph) (g : Graph) → Keeps c → graph_of c ≡ g → IsOrdered (in_topo g) × IsNumbered g
 
 -- a sink has no output port, and gives its writer tuples alone: a row for each item
 abbrev pub SinkLaw : Type 0
 SinkLaw = (c : CheckedGraph) (g : Graph) (n : ℕ) (op : Operator) (file : List ℕ) → Keeps c → graph_of c ≡ g → slice_get g.ops n ≡ Some op → op.clauses ≡ A.FileSink file
     → (op.outs ≡ []) × ((events : List Event) → count_by is_tuple (out op 0 events) ≡ length (out op 0 events))
-
--- what a graph means under a record depends on the entries of its operators with several connections alone
-abbrev pub SameRecordsLaw : Type 0
-SameRecordsLaw = (g : Graph) (rows : Lists) (first second : Entries) → IsNumbered g
-    → ((n : ℕ) (op : Operator) → slice_get g.ops n ≡ Some op → has_several (connections op) ≡ true → first op.number ≡ second op.number)
-    → meaning g rows first ≡ meaning g rows second
 
 -- each fault of a stream names this operator
 abbrev pub FaultsName : ℕ → List Item → Type 0

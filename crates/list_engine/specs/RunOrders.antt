@@ -1,15 +1,14 @@
--- In which order the operators of a run take the items of their inputs, and the first operator whose record isn't whole.
-use Rattle.std.specs.Prelude.{◌≡◌, ℕ, true, false, List, ◌∷◌, ◌++◌, Some, slice_get}
-use Rattle.std.specs.List.{Contains}
+-- In which order the operators of a run take the items of their inputs, and why a run in an order isn't made.
+use Rattle.std.specs.Prelude.{◌≡◌, ℕ, true, List, Some, slice_get}
 use Rattle.stream_model.specs.Arrivals.{entries_in, has_several}
 use Rattle.stream_model.specs.Meaning.{Graph, Lists, Entries, Meaning, lists_at, meaning}
 use Rattle.stream_model.specs.Operators.{Operator, connections}
 use Rattle.stream_model.specs.Records.{input_after_input}
+use Rattle.stream_model.specs.Runs.{IsFirstNotWhole}
 use Rattle.list_engine.specs.declared.run_order.Order.{Order}
 use Rattle.list_engine.specs.declared.run_order.Order.TheVariants.{InTurn, Recorded}
 use Rattle.list_engine.specs.declared.run_order.RunAnswer.{RunAnswer}
 use Rattle.list_engine.specs.declared.run_order.RunAnswer.TheVariants.{NotWhole, Memory}
-use Rattle.list_engine.specs.Runs.{is_whole_at}
 
 -- ---- the order
 
@@ -24,17 +23,6 @@ AreInOrder order g m entries = (n : ℕ) (op : Operator) → slice_get g.ops n �
     → Follows order op (lists_at m.streams (connections op)) (entries op.number)
 
 -- ---- records that aren't whole
-
--- of the operators with several connections, the one with this number is the first in topological order whose record isn't whole
-pub record IsFirstNotWhole (g : Graph) (m : Meaning) (entries : Entries) (n : ℕ) : Type 0 where
-  pub op : Operator
-  pub there : slice_get g.ops n ≡ Some op
-  pub several : has_several (connections op) ≡ true
-  pub not_whole : is_whole_at m entries op ≡ false
-  pub before : List ℕ
-  pub behind : List ℕ
-  pub order : g.topo ≡ before ++ n ∷ behind
-  pub earlier : (k : ℕ) (o : Operator) → Contains before k → slice_get g.ops k ≡ Some o → has_several (connections o) ≡ true → is_whole_at m entries o ≡ true
 
 -- why a run in this order isn't made: for lack of memory, or since the record isn't whole in the meaning of the graph for these rows
 -- under it

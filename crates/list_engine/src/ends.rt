@@ -4,7 +4,7 @@ ghost use Rattle.stream_model.specs.CheckedMeaning.{graph_of};
 ghost use Rattle.stream_model.specs.Ends.{stream_fault};
 ghost use Rattle.stream_model.specs.Meaning.{Graph};
 ghost use Rattle.stream_model.specs.Operators.{Operator};
-ghost use Rattle.list_engine.specs.Runs.{rows_at};
+ghost use Rattle.stream_model.specs.Runs.{rows_at};
 ghost use Rattle.list_engine.specs.steps.Faults.{fault_at, unread_fault, unread_faults, kept_fault, kept_faults};
 
 use crate::readers::is_read;

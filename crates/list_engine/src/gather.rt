@@ -4,7 +4,7 @@ ghost use Rattle.std.specs.List.{concat, Contains, list_any};
 ghost use Rattle.stream_model.specs.CheckedMeaning.{graph_of};
 ghost use Rattle.stream_model.specs.Ends.{is_read};
 ghost use Rattle.stream_model.specs.Meaning.{Graph};
-ghost use Rattle.list_engine.specs.Runs.{rows_at};
+ghost use Rattle.stream_model.specs.Runs.{rows_at};
 ghost use Rattle.list_engine.specs.steps.Reading.{ops_at};
 ghost use Rattle.list_engine.specs.steps.Table.{LeftBehind, StaysFor};
 

@@ -3,9 +3,11 @@ ghost use Rattle.std.specs.Prelude.{◌≡◌, []};
 ghost use Rattle.language_model.specs.Keeping.{Keeps};
 ghost use Rattle.stream_model.specs.CheckedMeaning.{graph_of};
 ghost use Rattle.stream_model.specs.Operators.{Operator};
-ghost use Rattle.list_engine.specs.Runs.{AreOperators, RowsFit};
+ghost use Rattle.list_engine.specs.Runs.{AreOperators};
+ghost use Rattle.stream_model.specs.Runs.{RowsFit};
 ghost use Rattle.list_engine.specs.examples.Chain.{chain, chain_graph, chain_operators, chain_rows};
-ghost use Rattle.list_engine.specs.RunLaws.{OrderedLaw, SinkLaw, SameRecordsLaw, FaultNamesLaw};
+ghost use Rattle.list_engine.specs.RunLaws.{SinkLaw, FaultNamesLaw};
+ghost use Rattle.stream_model.specs.RunLaws.{OrderedLaw, SameRecordsLaw};
 
 /// The graph of operators of a checked graph is ordered, and its operators are numbered by their places, so
 /// the laws of graphs speak of each graph that is run. A sink gives its writer tuples alone. What a graph

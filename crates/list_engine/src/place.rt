@@ -2,7 +2,7 @@
 ghost use Rattle.std.specs.Prelude.{◌≡◌, ◌<◌, ℕ, length};
 ghost use Rattle.std.specs.List.{Contains};
 ghost use Rattle.language_model.specs.Keeping.{Once};
-ghost use Rattle.list_engine.specs.Runs.{rows_at};
+ghost use Rattle.stream_model.specs.Runs.{rows_at};
 ghost use Rattle.list_engine.specs.steps.Keeping.{HasRoom, IsKept, kept_ports};
 ghost use Rattle.list_engine.specs.steps.Table.{IsPlaced};
 

@@ -3,7 +3,7 @@ ghost use Rattle.std.specs.Prelude.{◌≡◌, ◌<◌, ◌^◌, [], IfOk, IfErr
 ghost use Rattle.stream_model.specs.Arrivals.{entries_in};
 ghost use Rattle.stream_model.specs.Operators.{Operator};
 ghost use Rattle.stream_model.specs.Records.{is_whole};
-ghost use Rattle.list_engine.specs.Runs.{rows_at};
+ghost use Rattle.stream_model.specs.Runs.{rows_at};
 ghost use Rattle.list_engine.specs.steps.Taking.{AreInputs, HasGiven, task_of};
 ghost use Rattle.list_engine.specs.steps.Replaying.{FailsOn, RanIn, Replayed, Stops, TakesLast};
 

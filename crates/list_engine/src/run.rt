@@ -8,7 +8,8 @@ ghost use Rattle.stream_model.specs.Ends.{run_fault};
 ghost use Rattle.stream_model.specs.Meaning.{Graph};
 ghost use Rattle.list_engine.specs.declared.run_order.Order.{Order};
 ghost use Rattle.list_engine.specs.RunOrders.{AreInOrder, StopsRun};
-ghost use Rattle.list_engine.specs.Runs.{AreOperators, AreWhole, RowsFit, SinksGiven, meant, rows_at};
+ghost use Rattle.list_engine.specs.Runs.{AreOperators, meant};
+ghost use Rattle.stream_model.specs.Runs.{AreWhole, RowsFit, SinksGiven, rows_at};
 ghost use Rattle.list_engine.specs.steps.Keeping.{GivesNothing};
 ghost use Rattle.list_engine.specs.steps.Running.{Advances, AreLeft, IsOther, IsSource, Ready, StopsAt};
 

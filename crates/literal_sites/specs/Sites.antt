@@ -1,7 +1,7 @@
 -- Where the expressions of an operator stand, by what a call is given.
 use Rattle.std.specs.Prelude.{Option}
 use Rattle.spl_tree.specs.Trees.{Expr}
-use Rattle.language_model.specs.DollarTargets.{followed}
+use Rattle.language_model.specs.DollarTargets.{expression_meant}
 use Rattle.language_model.specs.Literals.{number_literal}
 use Rattle.language_model.specs.ParameterTyping.{Site}
 use Rattle.language_model.specs.Policies.{Numbers}
@@ -10,7 +10,7 @@ use Rattle.literal_sites.specs.declared.follow.Follow.{Follow}
 
 -- the values of `$` parameters in the body of an expansion; another expression is its own value
 abbrev pub followed_in : Follow → Expr → Option Expr
-followed_in f = followed f.sites.now.unit.now f.sites.now.expansions.now f.number
+followed_in f = expression_meant f.sites.now.unit.now f.sites.now.expansions.now f.number
 
 abbrev pub followed_at : ExpressionSite → Expr → Option Expr
 followed_at site = followed_in site.follow

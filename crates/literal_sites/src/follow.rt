@@ -1,7 +1,7 @@
 //! The expressions that are the values of `$` parameters.
 ghost use Rattle.std.specs.Prelude.{◌≡◌, length};
 ghost use Rattle.std.specs.Option.{option_copied};
-ghost use Rattle.language_model.specs.DollarTargets.{arguments_of, followed, heads_of, parameter_target, target};
+ghost use Rattle.language_model.specs.DollarTargets.{arguments_of, expression_meant, heads_of, parameter_target, target};
 ghost use Rattle.language_model.specs.parts.DollarTargets.{target_in};
 ghost use Rattle.literal_sites.specs.steps.Following.{target_seen};
 ghost use Rattle.literal_sites.specs.Sites.{followed_in};
@@ -19,7 +19,7 @@ pub struct Follow<'u> {
 impl<'u> Follow<'u> {
     /// The body of the expansion at `number`. Nothing is copied.
     pub fn new(sites: &'u SiteTable<'u>, number: u32) -> Follow<'u>
-        ensures { followed_in result ≡ followed sites.now.unit.now sites.now.expansions.now number }
+        ensures { followed_in result ≡ expression_meant sites.now.unit.now sites.now.expansions.now number }
     {
         Follow { sites, number }
     }
@@ -29,7 +29,7 @@ impl<'u> Follow<'u> {
     pub fn target<'e>(&self, expr: &'e Expr) -> Option<&'e Expr>
     where
         'u: 'e,
-        ensures { option_copied result ≡ followed self.now.sites.now.unit.now self.now.sites.now.expansions.now self.now.number expr.now }
+        ensures { option_copied result ≡ expression_meant self.now.sites.now.unit.now self.now.sites.now.expansions.now self.now.number expr.now }
     {
         let mut number = self.number;
         let mut expr = expr;

@@ -1,5 +1,5 @@
 -- The events of an operator by its ports: what may come there, what is replied, and what the operator stands for then.
-use Rattle.std.proofs.Common.{◌≡◌, ◌<◌, ◌≤◌, ◌+◌, ◌&&◌, ◌||◌, ◌==◌, ◌++◌, ℕ, Bool, true, false, not, if◌then◌else◌, IsTrue, List, [], ◌∷◌, length, is_none, slice_get, Some, None, refl, sym, ap, subst, ◌∙◌, arith}
+use Rattle.std.proofs.Common.{◌≡◌, ◌<◌, ◌≤◌, ◌+◌, ◌&&◌, ◌==◌, ◌++◌, ℕ, Bool, true, false, not, if◌then◌else◌, IsTrue, List, [], ◌∷◌, length, is_none, slice_get, Some, None, refl, sym, ap, subst, ◌∙◌, arith}
 use Rattle.std.specs.List.{list_all}
 use Rattle.std.proofs.lemmas.Bool.{lt-ltb, ne_eqb}
 use Rattle.spl_value.proofs.Lists.{get_below, get_within}
@@ -25,7 +25,7 @@ use Rattle.stream_model.specs.Stream.{Event, any_closes, came, is_empty, is_faul
 use Rattle.stream_model.specs.Inputs.{came_on}
 use Rattle.stream_model.specs.Operators.{Operator, ports}
 use Rattle.stream_model.specs.parts.Operators.{port_at}
-use Rattle.stream_model.specs.PortEvents.{is_last, is_over, is_waiting, port_events}
+use Rattle.stream_model.specs.PortEvents.{ends_all, is_over, is_waiting, port_events}
 use Rattle.stream_model.proofs.parts.PortEvents.{all_ended}
 use Rattle.stream_model.specs.parts.PortEvents.{port_ended}
 use Rattle.stream_model.specs.PortLaws.{PortEndLaw, WaitingLaw, has_connections, name_inputs}
@@ -74,8 +74,8 @@ by_ports_goes op (e ∷ h) live =
         → goes_on op (if w then port_events op h else came (port_at (ports op) e.input) e.item ∷ port_events op h) ≡ true
     go true q stays rest = rest
     go false q stays rest =
-        let own = ends (is_fault e.item) (is_last op h e) a
-        (ap (λ w. is_none (if is_fault e.item then Some e.item else if w then None else ended_by op (is_last op h e) (body op h e))) (sym q) ∙ stays) in
+        let own = ends (is_fault e.item) (ends_all op h e) a
+        (ap (λ w. is_none (if is_fault e.item then Some e.item else if w then None else ended_by op (ends_all op h e) (body op h e))) (sym q) ∙ stays) in
         ap (λ b. b && is_none (ends_at op (port_events op h) (port_at (ports op) e.input) e.item)) rest ∙ own
 
 -- ---- open inputs
@@ -83,17 +83,15 @@ by_ports_goes op (e ∷ h) live =
 -- on an input that is open no final marker has come
 over_not : (h : List Event) (i : ℕ) → any_closes (came_on (λ j. j == i) h) ≡ false → is_over h i ≡ false
 over_not [] i none = refl
-over_not (e ∷ h) i none = go (e.input == i) none (over_not h i)
+over_not (e ∷ h) i none = go (e.input == i) e.item none (over_not h i)
   where
-    later : (f c : Bool) → (if f || c then true else any_closes (came_on (λ j. j == i) h)) ≡ false → (f ≡ false) × (any_closes (came_on (λ j. j == i) h) ≡ false)
-    later true c q = absurd (let no : true ≡ false = q in cc)
-    later false true q = absurd (let no : true ≡ false = q in cc)
-    later false false q = (refl, q)
-
-    go : (b : Bool) → any_closes (if b then e.item ∷ came_on (λ j. j == i) h else came_on (λ j. j == i) h) ≡ false
-        → (any_closes (came_on (λ j. j == i) h) ≡ false → is_over h i ≡ false) → (if b && is_final e.item then true else is_over h i) ≡ false
-    go true q rest = let two = later (is_final e.item) (is_fault e.item) q in ap (λ f. if f then true else is_over h i) two.0 ∙ rest two.1
-    go false q rest = rest q
+    go : (b : Bool) (x : Item) → any_closes (if b then x ∷ came_on (λ j. j == i) h else came_on (λ j. j == i) h) ≡ false
+        → (any_closes (came_on (λ j. j == i) h) ≡ false → is_over h i ≡ false) → (if b && is_final x then true else is_over h i) ≡ false
+    go true (I.Tuple values) q rest = rest q
+    go true I.Window q rest = rest q
+    go true I.Final q rest = absurd (let no : true ≡ false = q in cc)
+    go true (I.Bad fault) q rest = absurd (let no : true ≡ false = q in cc)
+    go false x q rest = rest q
 
 names_all : (op : Operator) (h : List Event) → EventsFit op h → name_inputs op h ≡ true
 names_all op [] events = refl
@@ -124,16 +122,16 @@ open_input op h i x may = over_not h i may.is_open
 
 -- ---- replies
 
-same_given : (op : Operator) (h : List Event) (i : ℕ) (x : Item) → is_waiting op h (came i x) ≡ false → is_last op h (came i x) ≡ false
+same_given : (op : Operator) (h : List Event) (i : ℕ) (x : Item) → is_waiting op h (came i x) ≡ false → ends_all op h (came i x) ≡ false
     → react op h (came i x) ≡ gives_at op (port_events op h) (port_at (ports op) i) x
 same_given op h i x moves on = λ j. if is_fault x then on_each (length op.outs) x else if moves j then [] else answered op (on j) (body op h (came i x))
 
-same_ended : (op : Operator) (h : List Event) (i : ℕ) (x : Item) → is_waiting op h (came i x) ≡ false → is_last op h (came i x) ≡ false
+same_ended : (op : Operator) (h : List Event) (i : ℕ) (x : Item) → is_waiting op h (came i x) ≡ false → ends_all op h (came i x) ≡ false
     → ended op h (came i x) ≡ ends_at op (port_events op h) (port_at (ports op) i) x
 same_ended op h i x moves on = λ j. if is_fault x then Some x else if moves j then None else ended_by op (on j) (body op h (came i x))
 
 -- where it neither waits nor is the last, an event causes what it causes at its port
-pub replies_moved : (op : Operator) (h : List Event) (i : ℕ) (x : Item) (r : Reply) → is_waiting op h (came i x) ≡ false → is_last op h (came i x) ≡ false
+pub replies_moved : (op : Operator) (h : List Event) (i : ℕ) (x : Item) (r : Reply) → is_waiting op h (came i x) ≡ false → ends_all op h (came i x) ≡ false
     → RepliesAt op (port_events op h) (port_at (ports op) i) x r → Replies op h (came i x) r
 replies_moved op h i x (R.Out outs) moves on k = (k.0 ∙ sym (same_given op h i x moves on), same_ended op h i x moves on ∙ k.1)
 replies_moved op h i x (R.Ended outs fault) moves on k = (k.0 ∙ sym (same_given op h i x moves on), same_ended op h i x moves on ∙ k.1)
@@ -143,18 +141,18 @@ replies_moved op h i x R.Memory moves on k = tt
 pub not_waiting : (op : Operator) (h : List Event) (i : ℕ) (x : Item) → is_final x ≡ false → is_waiting op h (came i x) ≡ false
 not_waiting op h i x none = ap (λ b. b && not (port_ended op (port_at (ports op) i) (came i x ∷ h))) none
 
-pub not_last : (op : Operator) (h : List Event) (i : ℕ) (x : Item) → is_final x ≡ false → is_last op h (came i x) ≡ false
+pub not_last : (op : Operator) (h : List Event) (i : ℕ) (x : Item) → is_final x ≡ false → ends_all op h (came i x) ≡ false
 not_last op h i x none = ap (λ b. b && all_ended op (came i x ∷ h)) none
 
 -- the last one causes final markers after that
-react_last : (op : Operator) (h : List Event) (i : ℕ) (a : Reaction) → is_waiting op h (came i I.Final) ≡ false → is_last op h (came i I.Final) ≡ true → body op h (came i I.Final) ≡ a
+react_last : (op : Operator) (h : List Event) (i : ℕ) (a : Reaction) → is_waiting op h (came i I.Final) ≡ false → ends_all op h (came i I.Final) ≡ true → body op h (came i I.Final) ≡ a
     → (react op h (came i I.Final) ≡ answered op true a) × (ended op h (came i I.Final) ≡ ended_by op true a)
 react_last op h i a moves last is = (
   (λ j. if moves j then [] else answered op (last j) (is j)),
   (λ j. if moves j then None else ended_by op (last j) (is j)),
 )
 
-pub replies_last : (op : Operator) (h : List Event) (i : ℕ) (r result : Reply) → is_waiting op h (came i I.Final) ≡ false → is_last op h (came i I.Final) ≡ true
+pub replies_last : (op : Operator) (h : List Event) (i : ℕ) (r result : Reply) → is_waiting op h (came i I.Final) ≡ false → ends_all op h (came i I.Final) ≡ true
     → RepliesAt op (port_events op h) (port_at (ports op) i) I.Final r → EndsAs (length op.outs) r result → Replies op h (came i I.Final) result
 replies_last op h i (R.Out outs) (R.Out given) moves last k ends = absurd ends
 replies_last op h i (R.Out outs) (R.Ended given fault) moves last k ends = by (body op h (came i I.Final)) refl k.0 k.1
@@ -248,7 +246,7 @@ asks_connections op s h i x own open_of left outputs stands may = (op, h, stands
 
 -- an event that neither waits nor is the last
 pub replies_on : (op : Operator) (s : List Event → Type 0) (h : List Event) (i p : ℕ) (x : Item) (own open_of : List ℕ) (left outputs : ℕ) (r : Reply) → PortEndLaw
-    → StandsFor op s h own open_of left outputs → MayTake op h (came i x) → p ≡ port_at own i → is_waiting op h (came i x) ≡ false → is_last op h (came i x) ≡ false
+    → StandsFor op s h own open_of left outputs → MayTake op h (came i x) → p ≡ port_at own i → is_waiting op h (came i x) ≡ false → ends_all op h (came i x) ≡ false
     → ((k : List Event) → s k → MayTakeAt op k p x → RepliesAt op k p x r) → Replies op h (came i x) r
 replies_on op s h i p x own open_of left outputs r law stands may port moves on replies =
     let k = at_own op s h i p x own open_of left outputs law stands may port in
@@ -257,7 +255,7 @@ replies_on op s h i p x own open_of left outputs r law stands may port moves on 
 
 -- the last one
 pub replies_end : (op : Operator) (s : List Event → Type 0) (h : List Event) (i p : ℕ) (own open_of : List ℕ) (left outputs : ℕ) (r result : Reply) → PortEndLaw
-    → StandsFor op s h own open_of left outputs → MayTake op h (came i I.Final) → p ≡ port_at own i → is_waiting op h (came i I.Final) ≡ false → is_last op h (came i I.Final) ≡ true
+    → StandsFor op s h own open_of left outputs → MayTake op h (came i I.Final) → p ≡ port_at own i → is_waiting op h (came i I.Final) ≡ false → ends_all op h (came i I.Final) ≡ true
     → ((k : List Event) → s k → MayTakeAt op k p I.Final → RepliesAt op k p I.Final r) → EndsAs outputs r result → Replies op h (came i I.Final) result
 replies_end op s h i p own open_of left outputs r result law stands may port moves last replies ends =
     let k = at_own op s h i p I.Final own open_of left outputs law stands may port in

@@ -5,7 +5,8 @@ ghost use Rattle.stream_model.specs.CheckedMeaning.{graph_of};
 ghost use Rattle.stream_model.specs.Ends.{run_fault};
 ghost use Rattle.stream_model.specs.Meaning.{Graph};
 ghost use Rattle.list_engine.specs.RunOrders.{AreInOrder, StopsRun};
-ghost use Rattle.list_engine.specs.Runs.{AreWhole, RowsFit, SinksGiven, meant, rows_at};
+ghost use Rattle.list_engine.specs.Runs.{meant};
+ghost use Rattle.stream_model.specs.Runs.{AreWhole, RowsFit, SinksGiven, rows_at};
 
 use crate::operators::operators_of;
 use language_model::Checked;

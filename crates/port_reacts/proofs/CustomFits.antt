@@ -192,9 +192,9 @@ state_fits op handlers fit (e ∷ h) history =
 -- an item of an output port has its attributes
 item_has : (schema : Attributes) (x : Item) → ItemFits schema x → ItemHas schema x
 item_has schema (I.Tuple vs) h = h
-item_has schema I.Window h = tt
-item_has schema I.Final h = tt
-item_has schema (I.Bad f) h = tt
+item_has schema I.Window h = refl
+item_has schema I.Final h = refl
+item_has schema (I.Bad f) h = refl
 
 given_by : (op : Operator) (part : CheckedClauses) → is_custom part ≡ true → (p : ℕ) → given_attributes part op p ≡ unwrap_or (slice_get op.types.outs p) []
 given_by op (A.Custom handlers) is p = refl

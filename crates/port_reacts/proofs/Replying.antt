@@ -77,7 +77,7 @@ none_faulted op (e ∷ h) goes =
 
 fault_fits : (op : Operator) (f : Fault) (n : ℕ) → AllFit op (on_each n (I.Bad f))
 fault_fits op f zero = none_fit op
-fault_fits op f (suc n) = both_fit op (on_each n (I.Bad f)) (output n (I.Bad f) ∷ []) (fault_fits op f n) (one_fits op (output n (I.Bad f)) tt)
+fault_fits op f (suc n) = both_fit op (on_each n (I.Bad f)) (output n (I.Bad f) ∷ []) (fault_fits op f n) (one_fits op (output n (I.Bad f)) refl)
 
 -- what an item causes fits
 given_fits : (op : Operator) (h : List Event) (port : ℕ) (x : Item) → FitsAt (λ part. true) → MayTakeAt op h port x → AllFit op (gives_at op h port x)

@@ -6,7 +6,7 @@ use Rattle.std.specs.Str.{bytes_eq}
 use Rattle.std.proofs.Common.{refl, ap, sym, ◌∙◌, add-zero, arith}
 use Rattle.std.proofs.lemmas.Slice.Eq.{bytes_eq-Decides}
 use Rattle.language_model.specs.Expansion.{place_of}
-use Rattle.language_model.specs.Invoking.{is_among}
+use Rattle.language_model.specs.Names.{is_named}
 use Rattle.language_model.specs.Scopes.{At, at_place, first_from}
 
 abbrev place : {A : Type 0} → Option (At A) → Option ℕ
@@ -22,7 +22,7 @@ any_from p i (x ∷ xs) =
       | false ↦ any_from p (suc i) xs
     ]
 
-pub among_by_place : (name : List ℕ) (names : List (List ℕ)) → is_some (place_of name names) ≡ is_among name names
+pub among_by_place : (name : List ℕ) (names : List (List ℕ)) → is_some (place_of name names) ≡ is_named names name
 among_by_place name names = any_from (λ n. bytes_eq n name) 0 names
 
 -- ---- one more name
@@ -57,7 +57,7 @@ grown q name names =
     grown_from (λ n. bytes_eq n q) 0 names name ∙ ap (λ k. or_last (place_of q names) (last_place (bytes_eq name q) k)) from_none
 
 -- a name that is there already stands at its first place
-pub place_among : (q name : List ℕ) (names : List (List ℕ)) → is_among name names ≡ true → place_of q names ≡ place_of q (names ++ name ∷ [])
+pub place_among : (q name : List ℕ) (names : List (List ℕ)) → is_named names name ≡ true → place_of q names ≡ place_of q (names ++ name ∷ [])
 place_among q name names among = stays (place_of q names) (bytes_eq name q) refl refl ∙ sym (grown q name names)
   where
     stays : (o : Option ℕ) (b : Bool) → place_of q names ≡ o → bytes_eq name q ≡ b → o ≡ or_last o (last_place b (length names))
@@ -69,7 +69,7 @@ place_among q name names among = stays (place_of q names) (bytes_eq name q) refl
         cc
 
 -- a new one stands after them
-pub place_new : (q name : List ℕ) (names : List (List ℕ)) → is_among name names ≡ false
+pub place_new : (q name : List ℕ) (names : List (List ℕ)) → is_named names name ≡ false
     → (if bytes_eq name q then Some (length names) else place_of q names) ≡ place_of q (names ++ name ∷ [])
 place_new q name names new = comes (place_of q names) (bytes_eq name q) refl refl ∙ sym (grown q name names)
   where

@@ -1,7 +1,7 @@
 //! Tables of names, each with its first place in a list.
 ghost use Rattle.std.specs.Prelude.{◌≡◌, ◌∷◌, ◌++◌, [], List, ℕ, IfOk, OnOk, map, flat_map};
 ghost use Rattle.language_model.specs.Expansion.{place_of};
-ghost use Rattle.language_model.specs.Invoking.{is_among};
+ghost use Rattle.language_model.specs.Names.{is_named};
 ghost use Rattle.program_tables.specs.Names.{HoldsNames};
 
 use spl_tree::{CompositeParameter, HeadPort, Invocation, OutputStream, TypeDefinition};
@@ -59,7 +59,7 @@ impl<'n> Names<'n> {
 
     /// Whether a name is there.
     pub fn has(&self, name: &[u8]) -> bool
-        ensures { (names : List (List ℕ)) → HoldsNames self.now names → result ≡ is_among name.now names }
+        ensures { (names : List (List ℕ)) → HoldsNames self.now names → result ≡ is_named names name.now }
     {
         self.places.contains_key(name)
     }

@@ -13,9 +13,9 @@ channel_text n =
     codes "region " ++ decimal n.region ++ codes " channel " ++ decimal n.channel ++ codes " events " ++ decimal n.events ++ codes "\n"
 
 -- the line of a sink: how many tuples it wrote
-abbrev pub sink_text : CheckedGraph → SinkCount → List ℕ
-sink_text c n = codes "sink " ++ operator_name (Some c) n.op ++ codes " tuples " ++ decimal n.tuples ++ codes "\n"
+abbrev pub sink_line : CheckedGraph → SinkCount → List ℕ
+sink_line c n = codes "sink " ++ operator_name (Some c) n.op ++ codes " tuples " ++ decimal n.tuples ++ codes "\n"
 
 -- the channels and then the sinks, each in the order in which they were counted
 abbrev pub counts_text : CheckedGraph → Counts → List ℕ
-counts_text c counts = flat_map channel_text counts.channels ++ flat_map (sink_text c) counts.sinks
+counts_text c counts = flat_map channel_text counts.channels ++ flat_map (sink_line c) counts.sinks

@@ -59,8 +59,8 @@ begun_text c n number (region ∷ regions) =
 abbrev pub stands_in : ℕ → Region → Bool
 stands_in n region = list_any (λ m. m == n) region.ops
 
--- an operator that stands in a region has that region's line if it is the first there, and none if it is another one. Any other
--- operator has a line of its own
+-- an operator that stands in a region has that region's line if it is the first there, and none if it is another one.
+-- Any other operator has a line of its own
 abbrev pub operator_text : CheckedGraph → List Region → ℕ → List ℕ
 operator_text c plan n =
     if list_any (stands_in n) plan then begun_text c n 0 plan else codes "single " ++ operator_name (Some c) n ++ codes "\n"

@@ -1,6 +1,6 @@
 //! The text of what a run counted.
 ghost use Rattle.std.specs.Prelude.{◌≡◌, ◌++◌, flat_map, IfOk, OnOk};
-ghost use Rattle.run_report.specs.CountTexts.{channel_text, sink_text, counts_text};
+ghost use Rattle.run_report.specs.CountTexts.{channel_text, sink_line, counts_text};
 
 use crate::status::operator;
 use itoa::Buffer;
@@ -26,7 +26,7 @@ fn add_channel(text: &mut Vec<u8>, count: ChannelCount) -> Result<(), NoMemory>
 
 // Adds the line of a sink.
 fn add_sink(text: &mut Vec<u8>, checked: &Checked, count: SinkCount) -> Result<(), NoMemory>
-    ensures { OnOk result (text.new.items ≡ text.old.items ++ sink_text checked.now count) }
+    ensures { OnOk result (text.new.items ≡ text.old.items ++ sink_line checked.now count) }
 {
     let mut digits = Buffer::new();
     text.extend_from_slice(b"sink ")?;
@@ -50,7 +50,7 @@ fn add_channels(text: &mut Vec<u8>, counts: &[ChannelCount]) -> Result<(), NoMem
 // Adds the lines of sinks.
 fn add_sinks(text: &mut Vec<u8>, checked: &Checked, counts: &[SinkCount]) -> Result<(), NoMemory>
     ensures { OnOk result
-        (text.new.items ≡ text.old.items ++ flat_map (sink_text checked.now) counts.now) }
+        (text.new.items ≡ text.old.items ++ flat_map (sink_line checked.now) counts.now) }
 {
     for count in counts {
         add_sink(text, checked, *count)?;

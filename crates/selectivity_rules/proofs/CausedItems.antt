@@ -36,7 +36,7 @@ use Rattle.stream_model.specs.declared.plan.Gives.TheVariants as G
 use Rattle.stream_model.specs.Stream.{Event}
 use Rattle.stream_model.specs.Windows.{fired_at, flushes_at_markers, partition_key, tuples_with, window_events}
 use Rattle.stream_model.specs.Operators.{Operator}
-use Rattle.stream_model.specs.PortEvents.{items_of, port_events}
+use Rattle.stream_model.specs.PortEvents.{port_items, port_events}
 use Rattle.stream_model.specs.Bodies.{Makes, at_tuple, filter_body, functor_body, most_turns, on_each, on_first, on_picked, passes, split_body, tuple_by, union_body, values_at}
 use Rattle.stream_model.specs.Aggregates.{aggregate_body, arguments, contents_give, fired_give, slides}
 use Rattle.stream_model.specs.parts.Aggregates.{marker_passed}
@@ -283,7 +283,7 @@ module _ (n : ℕ) (partitioned : Bool) (partition : List ℕ) (output : List Co
   sliding_causes rule fit sliding =
       causes n (A.Aggregate (record { partitioned = partitioned; rule = rule }) partition [] output) functions types s t (window_gives rule []) (λ h.
       sliding_counts functions (record { partitioned = partitioned; rule = rule }) partition output schema fit sliding
-      (items_of 0 (port_events (one_in n (A.Aggregate (record { partitioned = partitioned; rule = rule }) partition [] output) functions types s (t ∷ [])) h)))
+      (port_items 0 (port_events (one_in n (A.Aggregate (record { partitioned = partitioned; rule = rule }) partition [] output) functions types s (t ∷ [])) h)))
 
   rule_causes : (rule : WindowRule) (group : List ℕ) → AggregateWindow schema rule → RuleHolds rule group
   rule_causes (W.TumblingCount k) group fit = λ h x live. tt

@@ -10,7 +10,8 @@ use Rattle.std.proofs.lemmas.Slice.Eq.{bytes_eq-Decides}
 use Rattle.feed_pour.specs.Counts.{FaultCounts, PerName, ReadingCounted, Rose}
 use Rattle.feed_pour.specs.Contents.{Told, WhereTold, TellsSame}
 use Rattle.language_model.specs.declared.checked.CheckedClauses.{CheckedClauses}
-use Rattle.check_laws.specs.Files.{source_file, source_files, is_named}
+use Rattle.language_model.specs.Files.{source_file, source_files}
+use Rattle.language_model.specs.Names.{is_named}
 use Rattle.source_rows.specs.Counting.{OnlyOf, OnlyRead, OnlyReads, OpeningFailed}
 use Rattle.source_rows.specs.Sources.{ReadsFail, is_failed}
 use Rattle.source_rows.specs.steps.Steps.{FirstOpening}

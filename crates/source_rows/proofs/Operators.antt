@@ -8,7 +8,7 @@ use Rattle.std.proofs.lemmas.Bool.{cases_lt}
 use Rattle.std.proofs.lemmas.List.{get_or_append_left}
 use Rattle.std.proofs.Math.Seq.{get_or-append_seam}
 use Rattle.stream_model.proofs.CheckedOperators.{operator_from, operators_length}
-use Rattle.list_engine.specs.Runs.{rows_at}
+use Rattle.stream_model.specs.Runs.{rows_at}
 use Rattle.spl_value.specs.declared.item.Item.{Item}
 use Rattle.spl_tree.specs.declared.graph.Op.{Op}
 use Rattle.spl_tree.specs.declared.graph.OpKind.{OpKind}
@@ -26,7 +26,8 @@ use Rattle.stream_model.specs.CheckedMeaning.{graph_of, operator_with}
 use Rattle.stream_model.specs.Meaning.{Graph, rows_of}
 use Rattle.stream_model.specs.Operators.{Operator, output_attributes}
 use Rattle.stream_model.specs.Rows.{rows}
-use Rattle.row_reader.specs.Reading.{is_read_fault, setting}
+use Rattle.row_reader.specs.Reading.{setting}
+use Rattle.stream_model.specs.SourceFaults.{is_read_fault}
 use Rattle.source_rows.specs.Sources.{AreRows, ReadsFail, is_failed, rows_by, rows_told}
 use Rattle.source_rows.specs.steps.Steps.{AreClosed, RowsOf, SourceRows}
 use Rattle.source_rows.proofs.Reading.{read_fails, counted_grows}

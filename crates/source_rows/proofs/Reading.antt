@@ -9,7 +9,7 @@ use Rattle.feed_pour.specs.Counts.{FaultCounts, Counted, PerName, OpeningCounted
 use Rattle.feed_pour.specs.Contents.{Told}
 use Rattle.stream_model.specs.Rows.{Setting, Given, Row, Nothing, Bad, checked_items, closing, items_from, line_gives, line_items, rows, too_long}
 use Rattle.stream_model.specs.parts.Rows.{pieces}
-use Rattle.row_reader.specs.Reading.{is_read_fault}
+use Rattle.stream_model.specs.SourceFaults.{is_read_fault}
 use Rattle.source_rows.specs.Counting.{Grows}
 use Rattle.source_rows.specs.Sources.{is_failed}
 use Rattle.spl_value.proofs.Lists.{same_or_not}

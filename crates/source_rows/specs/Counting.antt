@@ -1,7 +1,7 @@
 -- How the counts of faults change where files are opened in order, and read to their ends.
 use Rattle.std.specs.Prelude.{◌≡◌, ◌≢◌, ◌≤◌, ◌++◌, ◌∷◌, ℕ, List, false}
 use Rattle.feed_pour.specs.Counts.{FaultCounts, PerName, Rose}
-use Rattle.check_laws.specs.Files.{is_named}
+use Rattle.language_model.specs.Names.{is_named}
 
 -- of a name no count changed but that of reading
 pub record OnlyRead (old new : FaultCounts) : Type 0 where
@@ -22,7 +22,8 @@ OnlyOf files old new = (n : List ℕ) → is_named files n ≡ false → new n �
 abbrev pub Grows : PerName → PerName → Type 0
 Grows old new = (n : List ℕ) → (old n).reading ≤ (new n).reading
 
--- A file that is opened couldn't be. Nothing was counted of the files after it, and of those before it nothing but reading.
+-- A file that is opened couldn't be. Nothing was counted of the files after it, and of those before it nothing but
+-- reading.
 pub record OpeningFailed (opened : List (List ℕ)) (name : List ℕ) (old new : PerName) : Type 0 where
   pub before : List (List ℕ)
   pub behind : List (List ℕ)

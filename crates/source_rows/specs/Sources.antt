@@ -13,8 +13,8 @@ use Rattle.language_model.specs.CheckedGraph.{CheckedGraph}
 use Rattle.stream_model.specs.CheckedMeaning.{graph_of}
 use Rattle.stream_model.specs.Meaning.{Graph, rows_of}
 use Rattle.stream_model.specs.Operators.{Operator}
-use Rattle.row_reader.specs.Reading.{NamesOperator, is_read_fault}
-use Rattle.list_engine.specs.Runs.{RowsFit, rows_at}
+use Rattle.stream_model.specs.SourceFaults.{NamesOperator, is_read_fault}
+use Rattle.stream_model.specs.Runs.{RowsFit, rows_at}
 use Rattle.source_rows.specs.Counting.{OnlyOf, OnlyReads, OpeningFailed}
 use Rattle.source_rows.specs.declared.sources.Sources.{Sources}
 use Rattle.source_rows.specs.declared.sources.Sources.TheVariants as R
@@ -29,7 +29,8 @@ rows_told g told n = option_map_or (λ op. rows_by told op.clauses op) (slice_ge
 
 -- where a source's rows end in a read that failed, its file's count of reading rose
 abbrev pub ReadsCounted : Graph → List (List Item) → PerName → PerName → Type 0
-ReadsCounted g rows counts now = (n : ℕ) (op : Operator) (file : List ℕ) (strict : Bool) → slice_get g.ops n ≡ Some op → op.clauses ≡ A.FileSource file strict
+ReadsCounted g rows counts now = (n : ℕ) (op : Operator) (file : List ℕ) (strict : Bool) → slice_get g.ops n ≡ Some op
+    → op.clauses ≡ A.FileSource file strict
     → list_any is_read_fault (rows_at rows n) ≡ true → Rose (counts file).reading (now file).reading
 
 -- a source's faults name it

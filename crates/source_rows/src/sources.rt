@@ -1,7 +1,7 @@
 //! The sources of a checked graph, in the order of the operators.
 ghost use Rattle.std.specs.Prelude.{◌≡◌, ◌<◌, ◌-◌, ◌^◌, ◌∷◌, ℕ, List, Some, IfSome, slice_get};
 ghost use Rattle.feed_pour.specs.Contents.{WhereTold, TellsSame};
-ghost use Rattle.check_laws.specs.Files.{source_files};
+ghost use Rattle.language_model.specs.Files.{source_files};
 ghost use Rattle.language_model.specs.Keeping.{Keeps};
 ghost use Rattle.language_model.specs.StreamTypes.{Attributes};
 ghost use Rattle.stream_model.specs.CheckedMeaning.{operator_with};

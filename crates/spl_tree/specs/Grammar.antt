@@ -1,5 +1,5 @@
--- The grammar. A phrase is a token, or is made of other phrases, one after another, as a line of the grammar says. A tree
--- is placed at its first token.
+-- The grammar. A phrase is a token, or is made of other phrases, one after another, as a line of the grammar says. A
+-- tree is placed at its first token.
 use Rattle.std.specs.Prelude.{◌≡◌, ℕ, suc, Bool, true, false, List, [], ◌∷◌, ◌++◌, Option, Some, None}
 use Rattle.spl_value.specs.declared.types.IntKind.{IntKind}
 use Rattle.spl_tree.specs.declared.expression.BinaryOperator.{BinaryOperator}
@@ -56,8 +56,8 @@ pub data Phrase : Type 0 where
   At : ℕ → Phrase → Phrase
   -- the phrase, or no token
   Optional : Phrase → Phrase
-  -- a primary expression; one with the members and elements taken of it, if any; a prefix operator or a cast; an operand with
-  -- those in front of it; an expression whose operators between operands are of the levels up to this one, of nine; any one
+  -- a primary expression; one with the members and elements taken of it; a prefix operator or a cast; an operand with
+  -- those before it; an expression whose operators between operands are of the levels up to this one, of nine; any one
   Primary : Expr → Phrase
   Operand : Expr → Phrase
   InFront : Prefix → Phrase
@@ -70,14 +70,14 @@ pub data Phrase : Type 0 where
   -- what an assignment changes, and the declaration of a variable
   Place : Expr → Phrase
   Variable : Declaration → Phrase
-  -- a statement, which is closed where an `else` right after it can belong to no `if` within it; and one that is closed or not
+  -- a statement, closed where an `else` right after it can belong to no `if` within it; and one that is closed or not
   Statement : (closed : Bool) → Stmt → Phrase
   AnyStatement : Stmt → Phrase
-  -- the conditions of an `if` at a place and of each `else if` after it, with their statements, of which the last one is
-  -- closed or not
+  -- the conditions of an `if` at a place and of each `else if` after it, with their statements, of which the last one
+  -- is closed or not
   Arms : (closed : Bool) → ℕ → List (Expr × Stmt) → Phrase
-  -- an invocation, and its parts: the streams that it makes, with an alias; an input port; the variables of its state; the
-  -- window of a port; the assignments of an output; a parameter; and the clauses, or `;`
+  -- an invocation, and its parts: the streams that it makes, with an alias; an input port; the variables of its state;
+  -- the window of a port; the assignments of an output; a parameter; and the clauses, or `;`
   AnInvocation : Invocation → Phrase
   Head : List OutputStream → Option (Placed (List ℕ)) → Phrase
   Input : InputPort → Phrase
@@ -86,8 +86,8 @@ pub data Phrase : Type 0 where
   Assignments : OutputAssignments → Phrase
   AParameter : Parameter → Phrase
   Ending : Clauses → Phrase
-  -- the ports of a composite, or none; the definition of a type, a function or a composite; a `namespace` line, or none; a
-  -- program
+  -- the ports of a composite, or none; the definition of a type, a function or a composite; a `namespace` line, or
+  -- none; a program
   Ports : (outputs inputs : List HeadPort) → Phrase
   ADefinition : Definition → Phrase
   Namespace : Phrase
@@ -235,7 +235,8 @@ pub data Line : Phrase → List Phrase → Type 0 where
   call : (n : Placed (List ℕ)) (es : List Expr) → Line (Primary (placed n.at (X.Call n.what es))) (call_of n es)
   group : (at : ℕ) (e : Expr) → Line (Primary (placed at (X.Group e))) (At at (Sign S.LeftParen) ∷ Expression e ∷ Sign S.RightParen ∷ [])
   list : (at : ℕ) (es : List Expr) → Line (Primary (placed at (X.List es))) (At at (Sign S.LeftBracket) ∷ (expressions es ++ Sign S.RightBracket ∷ []))
-  map : (at : ℕ) (es : List (Expr × Expr)) → Line (Primary (placed at (X.Map es))) (At at (Sign S.LeftBrace) ∷ (separated S.Comma entry es ++ Sign S.RightBrace ∷ []))
+  map : (at : ℕ) (es : List (Expr × Expr)) → Line (Primary (placed at (X.Map es)))
+      (At at (Sign S.LeftBrace) ∷ (separated S.Comma entry es ++ Sign S.RightBrace ∷ []))
   tuple : (at : ℕ) (f : Field Expr) (fs : List (Field Expr))
       → Line (Primary (placed at (X.Tuple (f ∷ fs)))) (At at (Sign S.LeftBrace) ∷ (separated S.Comma field (f ∷ fs) ++ Sign S.RightBrace ∷ []))
   primary : (e : Expr) → Line (Operand e) (Primary e ∷ [])
@@ -252,7 +253,8 @@ pub data Line : Phrase → List Phrase → Type 0 where
       → Line (Level (suc k) (placed l.at (X.Binary op l r))) (Level (suc k) l ∷ OneToken kind ∷ Level k r ∷ [])
   whole : (e : Expr) → Line (Expression e) (Level 9 e ∷ [])
   -- a conditional groups to the right
-  conditional : (c x y : Expr) → Line (Expression (placed c.at (X.Conditional c x y))) (Level 9 c ∷ Sign S.Question ∷ Expression x ∷ Sign S.Colon ∷ Expression y ∷ [])
+  conditional : (c x y : Expr) → Line (Expression (placed c.at (X.Conditional c x y)))
+      (Level 9 c ∷ Sign S.Question ∷ Expression x ∷ Sign S.Colon ∷ Expression y ∷ [])
   -- types and shapes
   boolean : (at : ℕ) → Line (AType (placed at Y.Boolean)) (At at (Word K.Boolean) ∷ [])
   rstring : (at : ℕ) → Line (AType (placed at Y.Rstring)) (At at (Word K.Rstring) ∷ [])
@@ -265,15 +267,18 @@ pub data Line : Phrase → List Phrase → Type 0 where
   tuple_of : (at : ℕ) (x : Attribute TypeExpr) (xs : List (Attribute TypeExpr))
       → Line (AType (placed at (Y.Tuple (x ∷ xs)))) (At at (Word K.Tuple) ∷ Sign S.Less ∷ (attributes (x ∷ xs) ++ Sign S.Greater ∷ []))
   of_type : (k : TypeExpr) → Line (AShape (placed k.at (H.Type k))) (AType k ∷ [])
-  of_attributes : (x : Attribute TypeExpr) (xs : List (Attribute TypeExpr)) → Line (AShape (placed x.kind.at (H.Attributes (x ∷ xs)))) (attributes (x ∷ xs))
+  of_attributes : (x : Attribute TypeExpr) (xs : List (Attribute TypeExpr))
+      → Line (AShape (placed x.kind.at (H.Attributes (x ∷ xs)))) (attributes (x ∷ xs))
   -- statements
   variable : (n : Placed (List ℕ)) → Line (Place (placed n.at (X.Name n.what))) (Name n ∷ [])
   taken : (n : Placed (List ℕ)) (s : Step Expr) (ss : List (Step Expr))
       → Line (Place (placed n.at (X.Select (placed n.at (X.Name n.what)) (s ∷ ss)))) (Name n ∷ row step (s ∷ ss))
   declaration : (d : Declaration)
-      → Line (Variable d) (mutable_word d.mutable ++ (AType d.kind ∷ Name d.name ∷ (maybe (λ e. Sign S.Assign ∷ Expression e ∷ []) d.value ++ Sign S.Semicolon ∷ [])))
+      → Line (Variable d) (mutable_word d.mutable ++
+      (AType d.kind ∷ Name d.name ∷ (maybe (λ e. Sign S.Assign ∷ Expression e ∷ []) d.value ++ Sign S.Semicolon ∷ [])))
   any : (closed : Bool) (s : Stmt) → Line (AnyStatement s) (Statement closed s ∷ [])
-  compound : (at : ℕ) (ss : List Stmt) → Line (Statement true (placed at (Z.Block ss))) (At at (Sign S.LeftBrace) ∷ (row (alone AnyStatement) ss ++ Sign S.RightBrace ∷ []))
+  compound : (at : ℕ) (ss : List Stmt) → Line (Statement true (placed at (Z.Block ss)))
+      (At at (Sign S.LeftBrace) ∷ (row (alone AnyStatement) ss ++ Sign S.RightBrace ∷ []))
   declare : (at : ℕ) (d : Declaration) → Line (Statement true (placed at (Z.Declare d))) (At at (Variable d) ∷ [])
   assign : (p e : Expr) (op : Option BinaryOperator) (kind : TokenKind) → assignment_of kind ≡ Some op
       → Line (Statement true (placed p.at (Z.Assign p op e))) (Place p ∷ OneToken kind ∷ Expression e ∷ Sign S.Semicolon ∷ [])
@@ -283,18 +288,22 @@ pub data Line : Phrase → List Phrase → Type 0 where
   if_alone : (last : Bool) (at : ℕ) (arms : List (Expr × Stmt)) → Line (Statement false (placed at (Z.If arms None))) (Arms last at arms ∷ [])
   if_else : (closed : Bool) (at : ℕ) (arms : List (Expr × Stmt)) (s : Stmt) → IsNoIf s
       → Line (Statement closed (placed at (Z.If arms (Some s)))) (Arms true at arms ∷ Word K.Else ∷ Statement closed s ∷ [])
-  first_arm : (closed : Bool) (at : ℕ) (e : Expr) (s : Stmt) → Line (Arms closed at ((e, s) ∷ [])) (At at (Word K.If) ∷ (condition e ++ Statement closed s ∷ []))
+  first_arm : (closed : Bool) (at : ℕ) (e : Expr) (s : Stmt)
+      → Line (Arms closed at ((e, s) ∷ [])) (At at (Word K.If) ∷ (condition e ++ Statement closed s ∷ []))
   next_arm : (closed : Bool) (at : ℕ) (arms : List (Expr × Stmt)) (e : Expr) (s : Stmt)
       → Line (Arms closed at (arms ++ (e, s) ∷ [])) (Arms true at arms ∷ Word K.Else ∷ Word K.If ∷ (condition e ++ Statement closed s ∷ []))
   while : (closed : Bool) (at : ℕ) (e : Expr) (s : Stmt)
       → Line (Statement closed (placed at (Z.While e s))) (At at (Word K.While) ∷ (condition e ++ Statement closed s ∷ []))
   for : (closed : Bool) (at : ℕ) (x : Attribute TypeExpr) (e : Expr) (s : Stmt)
-      → Line (Statement closed (placed at (Z.For x e s))) (At at (Word K.For) ∷ (in_parens (AType x.kind ∷ Name x.name ∷ Word K.In ∷ Expression e ∷ []) ++ Statement closed s ∷ []))
+      → Line (Statement closed (placed at (Z.For x e s))) (At at (Word K.For)
+      ∷ (in_parens (AType x.kind ∷ Name x.name ∷ Word K.In ∷ Expression e ∷ []) ++ Statement closed s ∷ []))
   break : (at : ℕ) → Line (Statement true (placed at Z.Break)) (At at (Word K.Break) ∷ Sign S.Semicolon ∷ [])
   continue : (at : ℕ) → Line (Statement true (placed at Z.Continue)) (At at (Word K.Continue) ∷ Sign S.Semicolon ∷ [])
-  return : (at : ℕ) (v : Option Expr) → Line (Statement true (placed at (Z.Return v))) (At at (Word K.Return) ∷ (maybe (alone Expression) v ++ Sign S.Semicolon ∷ []))
+  return : (at : ℕ) (v : Option Expr) → Line (Statement true (placed at (Z.Return v)))
+      (At at (Word K.Return) ∷ (maybe (alone Expression) v ++ Sign S.Semicolon ∷ []))
   submit : (at : ℕ) (e : Expr) (n : Placed (List ℕ))
-      → Line (Statement true (placed at (Z.Submit e n))) (At at (Word K.Submit) ∷ (in_parens (Expression e ∷ Sign S.Comma ∷ Name n ∷ []) ++ Sign S.Semicolon ∷ []))
+      → Line (Statement true (placed at (Z.Submit e n)))
+      (At at (Word K.Submit) ∷ (in_parens (Expression e ∷ Sign S.Comma ∷ Name n ∷ []) ++ Sign S.Semicolon ∷ []))
   -- invocations: a stream alone, or streams in parentheses, and perhaps an alias; or no stream, and then an alias
   one_stream : (x : OutputStream) (l : Option (Placed (List ℕ))) → Line (Head (x ∷ []) l) (output x ++ alias l)
   streams : (x : OutputStream) (xs : List OutputStream) (l : Option (Placed (List ℕ)))
@@ -308,13 +317,15 @@ pub data Line : Phrase → List Phrase → Type 0 where
   port_window : (n : Placed (List ℕ)) (w : WindowPart) (ws : List WindowPart)
       → Line (Windows (record { port = n; parts = w ∷ ws })) (Name n ∷ Sign S.Colon ∷ (separated S.Comma window_part (w ∷ ws) ++ Sign S.Semicolon ∷ []))
   assignments : (n : Placed (List ℕ)) (f : Field Expr) (fs : List (Field Expr))
-      → Line (Assignments (record { stream = n; assignments = f ∷ fs })) (Name n ∷ Sign S.Colon ∷ (separated S.Comma field (f ∷ fs) ++ Sign S.Semicolon ∷ []))
+      → Line (Assignments (record { stream = n; assignments = f ∷ fs }))
+      (Name n ∷ Sign S.Colon ∷ (separated S.Comma field (f ∷ fs) ++ Sign S.Semicolon ∷ []))
   parameter : (n : Placed (List ℕ)) (e : Expr) (es : List Expr)
       → Line (AParameter (record { name = n; values = e ∷ es })) (Name n ∷ Sign S.Colon ∷ (expressions (e ∷ es) ++ Sign S.Semicolon ∷ []))
   no_clauses : Line (Ending (record { logic = None; window = None; parameters = []; output = None; config = [] })) (Sign S.Semicolon ∷ [])
   with_clauses : (x : Clauses) → Line (Ending x) (in_braces (clauses x))
   invocation : (v : Invocation) → Line (AnInvocation v)
-      (At v.at (Head v.outputs v.alias) ∷ Sign S.Assign ∷ Name v.operator ∷ (in_parens (separated S.Semicolon (alone Input) v.inputs) ++ Ending v.clauses ∷ []))
+      (At v.at (Head v.outputs v.alias) ∷ Sign S.Assign ∷ Name v.operator
+      ∷ (in_parens (separated S.Semicolon (alone Input) v.inputs) ++ Ending v.clauses ∷ []))
   -- definitions: the ports of a composite are outputs, inputs, both in either order, or none; `public` says nothing
   no_ports : Line (Ports [] []) []
   outputs_alone : (u : HeadPort) (us : List HeadPort) → Line (Ports (u ∷ us) []) (in_parens (ports K.Output (u ∷ us)))
@@ -330,7 +341,8 @@ pub data Line : Phrase → List Phrase → Type 0 where
   function : (f : FunctionDefinition)
       → Line (ADefinition (D.Function f)) (result_type f.result ++ (Name f.name ∷ (in_parens (attributes f.parameters) ++ block f.body)))
   no_namespace : Line Namespace []
-  namespace : (n : Placed (List ℕ)) (ns : List (Placed (List ℕ))) → Line Namespace (Word K.Namespace ∷ (separated S.Dot (alone Name) (n ∷ ns) ++ Sign S.Semicolon ∷ []))
+  namespace : (n : Placed (List ℕ)) (ns : List (Placed (List ℕ)))
+      → Line Namespace (Word K.Namespace ∷ (separated S.Dot (alone Name) (n ∷ ns) ++ Sign S.Semicolon ∷ []))
   program : (ds : List Definition) → Line (Program ds) (Namespace ∷ row (alone ADefinition) ds)
 
 -- ---- which tokens spell a phrase

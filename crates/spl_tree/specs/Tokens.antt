@@ -1,4 +1,5 @@
--- The tokens of bytes, with blanks and comments between them: each is the longest front of the bytes left that has the form of a token.
+-- The tokens of bytes, with blanks and comments between them: each is the longest front of the bytes left that has the
+-- form of a token.
 use Rattle.std.specs.Prelude.{◌≡◌, ◌<◌, ◌≤◌, ℕ, zero, suc, ◌+◌, ◌-◌, ◌==◌, ◌&&◌, nat_lt, Bool, false, not, List, [], ◌∷◌, ◌++◌, length, take, drop, fold, Option, Some, None, option_map, unwrap_or, is_some, Result, Ok, Err, if◌then◌else◌}
 use Rattle.std.specs.Bool.{then_some}
 use Rattle.std.specs.List.{list_all, take_while, prefix_len}
@@ -121,8 +122,8 @@ text_kind (Err at) = Err (E.BadByte, at)
 
 -- The form of a token
 
--- the token that these bytes are, all of them; or why bytes of a token's form are refused, as a number too large or a text with a bad
--- escape, and at which of them; None where they have the form of no token
+-- the token that these bytes are, all of them; or why bytes of a token's form are refused, as a number too large or a
+-- text with a bad escape, and at which of them; None where they have the form of no token
 abbrev pub form : List ℕ → Option (Result TokenKind Refusal)
 form [] = None
 form (b ∷ bs) =
@@ -176,8 +177,8 @@ abbrev pub comment_front : Option ℕ → Front
 comment_front None = Refuse E.OpenComment 0
 comment_front (Some n) = Pass (n + 2)
 
--- what stands at the front of bytes: a blank; a comment, `//` up to the end of the line or `/*` up to the next `*/`; or else a token
--- or a refusal
+-- what stands at the front of bytes: a blank; a comment, `//` up to the end of the line or `/*` up to the next `*/`; or
+-- else a token or a refusal
 unfoldable pub front : List ℕ → Front
 front [] = Pass 0
 front (b ∷ bs) =
@@ -188,7 +189,8 @@ front (b ∷ bs) =
 
 -- The tokens
 
--- bytes from a place on are these tokens, and then end or have this refusal: none are left, or a gap, a token or a refusal stands at their front
+-- bytes from a place on are these tokens, and then end or have this refusal: none are left, or a gap, a token or a
+-- refusal stands at their front
 pub data Lexes : (at : ℕ) → List ℕ → List Token → Option Refusal → Type 0 where
   done : (at : ℕ) → Lexes at [] [] None
   gap : (at n : ℕ) (bs : List ℕ) (ts : List Token) (stop : Option Refusal) → front bs ≡ Pass n → Lexes (at + n) (drop n bs) ts stop

@@ -27,8 +27,8 @@ pub record IsUnit (tokens : Tokens) (unit : List Definition) : Type 0 where
   pub shallow : too_deep_from 0 tokens.list ≡ None
   pub spells : SpellsProgram unit tokens.list
 
--- no token is too deep, the tokens before the one of that place start a unit and do not together with it; or the place is
--- the program's end, and all tokens start a unit and spell none
+-- no token is too deep, the tokens before the one of that place start a unit and do not together with it; or the place
+-- is the program's end, and all tokens start a unit and spell none
 pub record IsUnexpectedAt (tokens : Tokens) (at : ℕ) : Type 0 where
   pub shallow : too_deep_from 0 tokens.list ≡ None
   pub token : ℕ

@@ -73,4 +73,8 @@ pub fn weights_on_literals()
         ≡ 0 ∷ 1 ∷ 1 ∷ 1 ∷ 2 ∷ 2 ∷ 1 ∷ 0 ∷ 1 ∷ 2 ∷ 2 ∷ 1 ∷ 2 ∷ 2 ∷ 0 ∷ 0 ∷ 1 ∷ 1 ∷ []) }
     ensures block_ends { IsOkAnd (tokens (codes "{a = b + {c} d}")) (λ ts. weights ts.list
         ≡ 1 ∷ 1 ∷ 2 ∷ 2 ∷ 3 ∷ 4 ∷ 4 ∷ 3 ∷ 1 ∷ 0 ∷ []) }
+    ensures symbols { IsOkAnd (tokens (codes ": . = == != < <= > >= + - * / % ! ~ & && ^ | || ? += -= *= /= %= in a 1 'b' $c if , ( [ { } ] ) ;"))
+        (λ ts. weights ts.list
+        ≡ 1 ∷ 2 ∷ 3 ∷ 4 ∷ 5 ∷ 6 ∷ 7 ∷ 8 ∷ 9 ∷ 10 ∷ 11 ∷ 12 ∷ 13 ∷ 14 ∷ 15 ∷ 16 ∷ 17 ∷ 18 ∷ 19 ∷ 20 ∷ 21 ∷ 22 ∷
+        23 ∷ 24 ∷ 25 ∷ 26 ∷ 27 ∷ 28 ∷ 28 ∷ 28 ∷ 28 ∷ 28 ∷ 28 ∷ 0 ∷ 1 ∷ 2 ∷ 3 ∷ 2 ∷ 1 ∷ 0 ∷ 0 ∷ []) }
 {}

@@ -9,10 +9,10 @@ use Rattle.stream_model.proofs.Keyed.{keyed_law}
 use Rattle.stream_model.proofs.Stateless.{stateless_law}
 use Rattle.state_analysis.specs.StateLaws.{HasState, StateLaw}
 
-by_kind : (op : Operator) (s : ℕ) → op.ins ≡ (s ∷ []) ∷ [] → (kind : StateKind) → state_of op.clauses ≡ kind → HasState kind op
+by_kind : (op : Operator) (s : ℕ) → op.ins ≡ (s ∷ []) ∷ [] → (kind : StateKind) → state_of op ≡ kind → HasState kind op
 by_kind op s one K.Stateless is = stateless_law op s one is
 by_kind op s one (K.Keyed places) is = keyed_law op s places one is
 by_kind op s one K.Whole is = tt
 
 pub holds : StateLaw
-holds op s one = by_kind op s one (state_of op.clauses) refl
+holds op s one = by_kind op s one (state_of op) refl

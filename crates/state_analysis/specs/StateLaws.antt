@@ -15,4 +15,4 @@ HasState K.Whole op = ⊤
 
 -- an operator with one connection has the state that its clauses say
 abbrev pub StateLaw : Type 0
-StateLaw = (op : Operator) (s : ℕ) → op.ins ≡ (s ∷ []) ∷ [] → HasState (state_of op.clauses) op
+StateLaw = (op : Operator) (s : ℕ) → op.ins ≡ (s ∷ []) ∷ [] → HasState (state_of op) op

@@ -3,7 +3,7 @@ ghost use Rattle.stream_model.specs.declared.plan.StateKind.TheVariants as K;
 ghost use Rattle.stream_model.specs.CheckedMeaning.{graph_of};
 ghost use Rattle.stream_model.specs.Meaning.{Graph};
 ghost use Rattle.stream_model.specs.Operators.{Operator};
-ghost use Rattle.stream_model.specs.StateKinds.{state_of};
+ghost use Rattle.stream_model.specs.StateKinds.{state_by, state_of};
 ghost use Rattle.stream_model.specs.parts.StateKinds.{has_mutable};
 ghost use Rattle.stream_model.specs.Windows.{flushes_at_markers};
 
@@ -12,12 +12,12 @@ use spl_value::{Items, NoMemory, Places};
 use std::alloc::Global;
 use stream_model::StateKind;
 
-/// What kind of state the operator with this number keeps from event to event, by its clauses alone.
+/// What kind of state the operator with this number keeps from event to event.
 /// Memory is taken for the places of a key.
 pub fn state_of(alloc: Global, checked: &Checked, op: u32) -> Result<StateKind, NoMemory>
     requires number { op < length checked.now.parts }
     ensures kind { (g : Graph) (o : Operator) → graph_of checked.now ≡ g → slice_get g.ops op ≡ Some o
-        → IfOk result (λ kind. kind ≡ state_of o.clauses) }
+        → IfOk result (λ kind. kind ≡ state_of o) }
 {
     match checked.parts.get(op as usize) {
         Some(part) => state_by(alloc, part),
@@ -27,7 +27,7 @@ pub fn state_of(alloc: Global, checked: &Checked, op: u32) -> Result<StateKind, 
 
 /// The same by these clauses.
 fn state_by(alloc: Global, part: &CheckedClauses) -> Result<StateKind, NoMemory>
-    ensures { IfOk result (λ kind. kind ≡ state_of part.now) }
+    ensures { IfOk result (λ kind. kind ≡ state_by part.now) }
 {
     match part {
         CheckedClauses::FileSource { .. }

@@ -15,7 +15,7 @@ use Rattle.composite_tables.specs.declared.made.Body.{Body}
 use Rattle.composite_tables.specs.Inputs.{Shows, AreNested}
 use Rattle.stream_numbering.specs.steps.SiteTable.{Parts, parts_of, stream_there, row_of, row_at, filled, table_of}
 use Rattle.stream_numbering.specs.steps.StreamTable.{Table, stream_in}
-use Rattle.stream_numbering.proofs.Outputs.{and_then_same, followed, followed_same, stream_law}
+use Rattle.stream_numbering.proofs.Outputs.{and_then_same, followed_inputs, followed_same, stream_law}
 use Rattle.stream_numbering.proofs.SiteTables.{composite_is, there_is}
 use Rattle.spl_value.proofs.Lists.{get_set_same as slice_get-set_same}
 
@@ -44,7 +44,7 @@ module _ (unit : List Definition) (bodies : List Body) (made : Made) (shows : Sh
   abbrev stands_for : Source → Option ℕ
   stands_for = stream_of (length made.expansions) made
 
-  row_is : (table : Table) (number place : ℕ) → at_place (row_at parts table number) place ≡ followed (stream_in table) made (source number place)
+  row_is : (table : Table) (number place : ℕ) → at_place (row_at parts table number) place ≡ followed_inputs (stream_in table) made (source number place)
   row_is table number place = ap (λ c. at_place (option_map_or (row_of parts table number) c []) place) (composite_is unit bodies made shows number) ∙ by (slice_get made.expansions number)
     where
       by : (o : Option Inlined) → at_place (option_map_or (row_of parts table number) (option_map (λ x. x.composite.what) o) []) place

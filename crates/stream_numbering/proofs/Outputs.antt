@@ -18,8 +18,8 @@ and_then_same f g None h = refl
 and_then_same f g (Some a) h = h a refl
 
 -- one step inwards
-abbrev pub followed : (Source → Option ℕ) → Made → Source → Option ℕ
-followed inner made x =
+abbrev pub followed_inputs : (Source → Option ℕ) → Made → Source → Option ℕ
+followed_inputs inner made x =
     option_and_then (λ e. option_and_then
     (λ o. operator_or_expansion inner made (site_at x.expansion o) o.output (operator_at made (site_at x.expansion o)))
     (slice_get (graph_outputs e.composite.what) x.place))
@@ -49,7 +49,7 @@ module _ (made : Made) (nested : AreNested made.expansions) where
         and_then_same _ _ (output_place x.composite.what k) (λ place is.
         agree m place (subst (λ (n : ℕ). n < m) here (is_inner s m x found there)))))
 
-    pub followed_same : (place : ℕ) → followed f made (source number place) ≡ followed g made (source number place)
+    pub followed_same : (place : ℕ) → followed_inputs f made (source number place) ≡ followed_inputs g made (source number place)
     followed_same place =
         and_then_same _ _ (slice_get made.expansions number) (λ e there.
         and_then_same _ _ (slice_get (graph_outputs e.composite.what) place) (λ o named.
@@ -65,5 +65,5 @@ module _ (made : Made) (nested : AreNested made.expansions) where
   enough (suc count) number place h =
       followed_same (stream_of (suc count) made) (stream_of count made) number (λ m p lt. enough count m p (omega arith)) place
 
-  pub stream_law : (x : Source) → stream_of (length made.expansions) made x ≡ followed (stream_of (length made.expansions) made) made x
+  pub stream_law : (x : Source) → stream_of (length made.expansions) made x ≡ followed_inputs (stream_of (length made.expansions) made) made x
   stream_law x = sym (enough (length made.expansions) x.expansion x.place (omega arith))

@@ -86,15 +86,15 @@ map_law at scope (This p) es = refl
 map_law at scope Anything [] = refl
 map_law at scope Anything (e ∷ es) = refl
 
-abbrev first_of : Option (SplType × SplType) → Option SplType
-first_of p = option_map (λ p. p.0) p
+abbrev first_type : Option (SplType × SplType) → Option SplType
+first_type p = option_map (λ p. p.0) p
 
 abbrev second_of : Option (SplType × SplType) → Option SplType
 second_of p = option_map (λ p. p.1) p
 
 map_step : (at : ℕ) (scope : Scope) (p : Option (SplType × SplType)) (codes : Entries) (e : Placed Part × Placed Part) (es : List (Placed Part × Placed Part))
     → map_on at scope p codes (e ∷ es)
-    ≡ after (part_typed e.0 scope (first_of p)) (λ x. after (part_typed e.1 scope (second_of p)) (λ y. map_on at scope (Some (unwrap_or p (x.kind, y.kind))) (codes ++ (x.code, y.code) ∷ []) es))
+    ≡ after (part_typed e.0 scope (first_type p)) (λ x. after (part_typed e.1 scope (second_of p)) (λ y. map_on at scope (Some (unwrap_or p (x.kind, y.kind))) (codes ++ (x.code, y.code) ∷ []) es))
 map_step at scope None codes e es = refl
 map_step at scope (Some p) codes e es =
     after_after (part_typed e.0 scope (Some p.0)) (λ x. after (part_typed e.1 scope (Some p.1)) (λ y. after (entries_typed scope p.0 p.1 es) (λ xs. Ok ((x.code, y.code) ∷ xs)))) (λ xs. Ok (typed (S.Map p.0 p.1) (C.Map (codes ++ xs))))
@@ -106,7 +106,7 @@ module _ (at : ℕ) (scope : Scope) (p : Option (SplType × SplType)) (all : Lis
   pub map_past : length all ≤ i → map_on at scope p codes (entry_parts (drop i all)) ≡ map_on at scope p codes []
   map_past h = ap (λ es. map_on at scope p codes (entry_parts es)) (drop_all i all h)
 
-  pub map_next : (e : Expr × Expr) (x y : Typed) (zs : Entries) → i < length all → e ≡ get_or all i e → typing scope e.0 (first_of p) ≡ Ok x → typing scope e.1 (second_of p) ≡ Ok y
+  pub map_next : (e : Expr × Expr) (x y : Typed) (zs : Entries) → i < length all → e ≡ get_or all i e → typing scope e.0 (first_type p) ≡ Ok x → typing scope e.1 (second_of p) ≡ Ok y
       → zs ≡ codes ++ (x.code, y.code) ∷ []
       → map_on at scope p codes (entry_parts (drop i all)) ≡ map_on at scope (Some (unwrap_or p (x.kind, y.kind))) zs (entry_parts (drop (i + 1) all))
   map_next e x y zs h is first second new =

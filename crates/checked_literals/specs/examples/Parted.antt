@@ -136,8 +136,8 @@ declares =
     }))
 
 -- last && n > 0
-abbrev pub is_last : Expr
-is_last = placed 648 (E.Binary B.And (word_at 648 (codes "last")) (placed 656 (E.Binary B.Greater (word_at 656 (codes "n")) (number_at 660 N.I32 0))))
+abbrev pub last_condition : Expr
+last_condition = placed 648 (E.Binary B.And (word_at 648 (codes "last")) (placed 656 (E.Binary B.Greater (word_at 656 (codes "n")) (number_at 660 N.I32 0))))
 
 -- { int32 k = seen; n -= k; submit({n = n + k}, K); }
 abbrev pub otherwise : Stmt
@@ -155,7 +155,7 @@ on_other =
       port = name_at 593 (codes "Other");
       body =
           declares
-          ∷ placed 644 (M.If ((is_last, placed 663 (M.Submit (word_at 670 (codes "Other")) (name_at 677 (codes "W")))) ∷ []) (Some otherwise)) ∷ [];
+          ∷ placed 644 (M.If ((last_condition, placed 663 (M.Submit (word_at 670 (codes "Other")) (name_at 677 (codes "W")))) ∷ []) (Some otherwise)) ∷ [];
     }
 
 -- currentPunct() == Sys.WindowMarker

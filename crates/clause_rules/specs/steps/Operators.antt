@@ -9,7 +9,7 @@ use Rattle.language_model.specs.declared.checked.CollectedAttribute.{CollectedAt
 use Rattle.language_model.specs.declared.scope.CheckError.TheVariants as E
 use Rattle.language_model.specs.declared.scope.Port.{Port}
 use Rattle.language_model.specs.declared.scope.Scope.{Scope}
-use Rattle.language_model.specs.Checking.{first_of, has_text_form}
+use Rattle.language_model.specs.Checking.{first_list, has_text_form}
 use Rattle.language_model.specs.Checking as checking
 use Rattle.language_model.specs.LogicTyping.{Surroundings}
 use Rattle.language_model.specs.OutputTyping.{groups_typing, tuple_typing}
@@ -40,11 +40,11 @@ rows_of_schemas at schemas = if list_all has_text_form schemas then passed else 
 
 abbrev pub tuple_at : Around → Scope → ℕ → List OutputAssignments → Found (Code Slot)
 tuple_at around scope at rows =
-    tuple_typing scope at (first_of (map (λ p. p.schema) around.outputs.now)) (first_of (map (λ p. p.name) around.outputs.now)) rows
+    tuple_typing scope at (first_list (map (λ p. p.schema) around.outputs.now)) (first_list (map (λ p. p.name) around.outputs.now)) rows
 
 abbrev pub groups_at : Around → Scope → ℕ → List OutputAssignments → Found (List CollectedAttribute)
 groups_at around scope at rows =
-    groups_typing scope at (first_of (map (λ p. p.schema) around.outputs.now)) (first_of (map (λ p. p.name) around.outputs.now)) rows
+    groups_typing scope at (first_list (map (λ p. p.schema) around.outputs.now)) (first_list (map (λ p. p.name) around.outputs.now)) rows
 
 -- what has names, as ports with these attributes
 abbrev pub named : {A : Type 0} → (A → List ℕ) → List A → List Attributes → List Port

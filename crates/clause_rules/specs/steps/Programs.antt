@@ -9,7 +9,7 @@ use Rattle.language_model.specs.declared.scope.Scope.{Scope}
 use Rattle.language_model.specs.Checking.{clauses_checked, port_types}
 use Rattle.language_model.specs.parts.Checking.{each_stream, operators_checked, ports_checked, ports_of, surroundings}
 use Rattle.language_model.specs.FlatLaws.{IsInvoked}
-use Rattle.language_model.specs.DollarTargets.{followed}
+use Rattle.language_model.specs.DollarTargets.{expression_meant}
 use Rattle.language_model.specs.Numbering.{numbers_from}
 use Rattle.language_model.specs.Parameters.{dollar_tables}
 use Rattle.language_model.specs.StreamTypes.{Body, body_at}
@@ -33,7 +33,7 @@ abbrev pub invocation_in : List Definition → Graph → Scope → Op → Body �
 invocation_in unit g scope op b i =
     after (ports_checked op i) (λ u. after (port_types unit g b op i) (λ types.
     let own = record scope { ports = ports_of i.inputs types.ins } in
-    clauses_checked op (record { scope = own; follow = followed unit g.expansions b.number }) (surroundings unit b i own types.outs) i.clauses))
+    clauses_checked op (record { scope = own; follow = expression_meant unit g.expansions b.number }) (surroundings unit b i own types.outs) i.clauses))
 
 -- the parts of the operators and the attributes of the streams
 abbrev pub found_in : List Definition → Graph → Found PartsAndSchemas

@@ -12,7 +12,7 @@ use Rattle.file_adapters.specs.declared.sinks.Sink.{Sink}
 use Rattle.file_adapters.specs.declared.sinks.Sunk.{Sunk}
 use Rattle.file_adapters.specs.declared.sinks.Sunk.TheVariants as S
 use Rattle.file_adapters.specs.declared.text.TextFile.{TextFile}
-use Rattle.file_adapters.specs.Sinks.{HoldsFront, sink_text}
+use Rattle.file_adapters.specs.Sinks.{HoldsFront, file_text}
 
 -- ---- files
 
@@ -70,7 +70,7 @@ TextPoured (Err e) (Some old) now faults text = FrontPoured old now text
 -- into the pour of each sink its text was poured
 abbrev pub EachPoured : {W A : Type 0} → (W → Option (List ℕ)) → (W → ℕ) → Result A NoMemory → List W → List W → List Sink → List (List Item) → Type 0
 EachPoured {W} poured faults r olds news sinks streams = (k : ℕ) (d : W) (s : Sink) → k < length sinks →
-    TextPoured r (poured (slice_index_or olds k d)) (poured (slice_index_or news k d)) (faults (slice_index_or news k d)) (sink_text streams (slice_index_or sinks k s))
+    TextPoured r (poured (slice_index_or olds k d)) (poured (slice_index_or news k d)) (faults (slice_index_or news k d)) (file_text streams (slice_index_or sinks k s))
 
 -- this number of rows was counted, unless the pour counts faults
 abbrev pub CountedUnless : ℕ → ℕ → ℕ → Type 0

@@ -10,7 +10,7 @@ use Rattle.language_model.specs.declared.scope.CheckError.TheVariants as E
 use Rattle.language_model.specs.declared.scope.Port.{Port}
 use Rattle.language_model.specs.declared.scope.Scope.{Scope}
 use Rattle.language_model.specs.FunctionTyping.{unit_scope}
-use Rattle.language_model.specs.DollarTargets.{followed}
+use Rattle.language_model.specs.DollarTargets.{expression_meant}
 use Rattle.language_model.specs.ParameterTyping.{Site}
 use Rattle.language_model.specs.Parameters.{Tables, table_at}
 use Rattle.language_model.specs.StreamTypes.{Body}
@@ -25,7 +25,7 @@ abbrev pub operator_scope : List Definition → Tables → Body → List Port �
 operator_scope unit tables b ports = record (unit_scope unit) { ports = ports; dollars = table_at tables b.number }
 
 abbrev pub site_of : List Definition → Graph → Tables → Body → List Port → Site
-site_of unit g tables b ports = record { scope = operator_scope unit tables b ports; follow = followed unit g.expansions b.number }
+site_of unit g tables b ports = record { scope = operator_scope unit tables b ports; follow = expression_meant unit g.expansions b.number }
 
 -- each operator of the graph is that of an invocation in a body
 abbrev pub body_checked : List Definition → Graph → Tables → Op → Option Body → Found CheckedClauses

@@ -36,7 +36,7 @@ use Rattle.language_model.specs.StreamTypes.{Attributes, Body, Passes, passed, s
 use Rattle.language_model.specs.TypeNames.{composite_types}
 use Rattle.language_model.specs.Typing.{Found, after, refused}
 use Rattle.language_model.specs.After.{each}
-use Rattle.language_model.specs.Checking.{Checks, are_passed, as_code, as_file, as_places, as_position, as_strict, first_of, fit_ports, logic_checked, operator_checked, plain, port_name, rows_checked, there, tuple_of, windows_of_form}
+use Rattle.language_model.specs.Checking.{Checks, are_passed, as_code, as_file, as_places, as_position, as_strict, first_list, fit_ports, logic_checked, operator_checked, plain, port_name, rows_checked, there, tuple_of, windows_of_form}
 
 abbrev pub ports_checked : Op → Invocation → Passes
 ports_checked op i = if fit_ports op.kind (length i.inputs) (length i.outputs) then passed else refused E.PortCount op.at None
@@ -101,11 +101,11 @@ split x clauses = after (there x.at (as_code (value_given x.given (codes "index"
 
 abbrev pub union : Checks → Clauses → Found CheckedClauses
 union x clauses =
-    after (inputs_typing x.at (first_of x.around.schemas) x.around.scope.ports) (λ places. plain O.Union clauses (A.Union places))
+    after (inputs_typing x.at (first_list x.around.schemas) x.around.scope.ports) (λ places. plain O.Union clauses (A.Union places))
 
 abbrev pub aggregated : Checks → Clauses → List OutputAssignments → List Policy → Found CheckedClauses
 aggregated x clauses rows windows = of_first (bad_window x.at) (λ window others.
-    after (groups_typing x.around.scope x.at (first_of x.around.schemas) (first_of x.around.outputs) rows) (λ output.
+    after (groups_typing x.around.scope x.at (first_list x.around.schemas) (first_list x.around.outputs) rows) (λ output.
     plain O.Aggregate clauses
     (A.Aggregate window (as_places (value_given x.given (codes "partitionBy"))) (as_places (value_given x.given (codes "groupBy"))) output))) windows
 

@@ -3,11 +3,12 @@ use Rattle.std.specs.Prelude.{ℕ, ◌==◌, Bool, ◌&&◌, ◌||◌, List, len
 use Rattle.spl_tree.specs.declared.unit.Clauses.{Clauses}
 use Rattle.spl_tree.specs.declared.unit.Composite.{Composite}
 use Rattle.spl_tree.specs.declared.unit.Parameter.{Parameter}
-use Rattle.language_model.specs.Invoking.{input_names, is_among, is_parameter, stream_names}
+use Rattle.language_model.specs.Invoking.{input_names, is_parameter, stream_names}
+use Rattle.language_model.specs.Names.{is_named}
 
 -- a stream that an invocation in the composite may read
 abbrev pub is_readable : Composite → List ℕ → Bool
-is_readable c name = is_among name (stream_names c) || is_among name (input_names c)
+is_readable c name = is_named (stream_names c) name || is_named (input_names c) name
 
 -- an argument has one value, and the head has a parameter of its name
 abbrev pub is_argument : Composite → Parameter → Bool

@@ -7,7 +7,7 @@ use Rattle.stream_model.specs.Ends.{first_fault, is_read, stream_fault}
 use Rattle.stream_model.specs.Meaning.{Graph}
 use Rattle.stream_model.specs.Operators.{Operator}
 use Rattle.list_engine.specs.declared.state.State.{State}
-use Rattle.list_engine.specs.Runs.{rows_at}
+use Rattle.stream_model.specs.Runs.{rows_at}
 
 abbrev pub fault_at : List (Option Fault) → ℕ → Option Fault
 fault_at faults n = unwrap_or (slice_get faults n) None

@@ -14,7 +14,7 @@ use Rattle.list_engine.specs.declared.run_order.Order.{Order}
 use Rattle.list_engine.specs.declared.run_order.Order.TheVariants.{InTurn, Recorded}
 use Rattle.list_engine.specs.declared.run_order.RunAnswer.{RunAnswer}
 use Rattle.list_engine.specs.declared.run_order.RunAnswer.TheVariants.{NotWhole, Memory}
-use Rattle.list_engine.specs.Runs.{rows_at}
+use Rattle.stream_model.specs.Runs.{rows_at}
 use Rattle.list_engine.specs.RunOrders.{Follows}
 use Rattle.list_engine.specs.steps.Taking.{EndsBy, HasGiven, Task}
 

@@ -16,7 +16,8 @@ use Rattle.list_engine.specs.declared.run_order.Order.{Order}
 use Rattle.list_engine.specs.declared.run_order.RunAnswer.{RunAnswer}
 use Rattle.list_engine.specs.declared.state.State.{State}
 use Rattle.list_engine.specs.RunOrders.{Follows, StopsRun}
-use Rattle.list_engine.specs.Runs.{RowsFit, is_source, is_whole_at, rows_at}
+use Rattle.list_engine.specs.Runs.{is_source}
+use Rattle.stream_model.specs.Runs.{RowsFit, is_whole_at, rows_at}
 use Rattle.list_engine.specs.steps.Faults.{fault_at}
 use Rattle.list_engine.specs.steps.Reading.{ops_at}
 use Rattle.list_engine.specs.steps.Recording.{entries_at, recorded_at}

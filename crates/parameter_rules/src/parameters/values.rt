@@ -1,11 +1,12 @@
 //! The values of parameters.
-ghost use Rattle.std.specs.Prelude.{◌≡◌};
+ghost use Rattle.std.specs.Prelude.{◌≡◌, Ok};
 ghost use Rattle.std.specs.Option.{option_copied};
 ghost use Rattle.spl_value.specs.declared.types.SplType.TheViews.{out-SplType};
-ghost use Rattle.language_model.specs.ParameterTyping.{level_index, one_value, single_value, value_typing};
+ghost use Rattle.language_model.specs.ParameterTyping.{one_value, single_value, value_typing};
 ghost use Rattle.language_model.specs.parts.ParameterTyping.{format_of, parsing_of, position_of, word_of};
 ghost use Rattle.language_model.specs.Finds.{Finds};
-ghost use Rattle.language_model.specs.Typing.{Found, after, mismatch};
+ghost use Rattle.language_model.specs.declared.checked.ParameterValue.TheVariants as P;
+ghost use Rattle.language_model.specs.Typing.{Found, after, level_index, mismatch};
 ghost use Rattle.literal_sites.specs.Sites.{site_seen};
 
 use super::keys::{first_schema, some_keys};
@@ -139,7 +140,7 @@ fn position_of(value: &Expr) -> Result<ParameterValue, TypeAnswer>
 
 /// An index is an integer of any type.
 fn index(at: u32, kind: &SplType, code: Boxed<Code<Slot>>) -> Result<ParameterValue, TypeAnswer>
-    ensures { Finds (level_index at code (out-SplType kind.now)) result }
+    ensures { Finds (after (level_index at code (out-SplType kind.now)) (λ code. Ok (P.Code code))) result }
 {
     match kind {
         SplType::Int(_) => Ok(ParameterValue::Code(code.into_inner())),

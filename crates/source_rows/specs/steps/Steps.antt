@@ -13,8 +13,9 @@ use Rattle.stream_model.specs.Meaning.{rows_of}
 use Rattle.stream_model.specs.Operators.{Operator, output_attributes}
 use Rattle.stream_model.specs.Rows.{rows}
 use Rattle.stream_model.specs.Stream.{is_closed, TuplesFit}
-use Rattle.row_reader.specs.Reading.{NamesOperator, is_read_fault, setting}
-use Rattle.check_laws.specs.Files.{source_files}
+use Rattle.row_reader.specs.Reading.{setting}
+use Rattle.stream_model.specs.SourceFaults.{NamesOperator, is_read_fault}
+use Rattle.language_model.specs.Files.{source_files}
 use Rattle.source_rows.specs.Counting.{OnlyOf, OnlyReads}
 use Rattle.source_rows.specs.declared.file.FileRows.{FileRows}
 use Rattle.source_rows.specs.declared.file.FileRows.TheVariants as F

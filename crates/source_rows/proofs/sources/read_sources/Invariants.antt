@@ -1,6 +1,6 @@
 use Rattle.std.proofs.Common.{◌≡◌, ◌<◌, ◌≤◌, ◌-◌, ◌^◌, ℕ, List, length, take}
 use Rattle.std.specs.Prelude.{IfSome}
-use Rattle.check_laws.specs.Files.{source_files}
+use Rattle.language_model.specs.Files.{source_files}
 use Rattle.feed_pour.specs.Contents.{WhereTold, TellsSame}
 use Rattle.source_rows.specs.Counting.{OnlyReads}
 use Rattle.source_rows.specs.Sources.{ReadsFail}

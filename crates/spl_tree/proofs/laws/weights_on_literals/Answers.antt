@@ -9,3 +9,7 @@ returns-clause-levels c = refl
 pub returns-clause-block_ends : goal.returns-clause-block_ends
 unfolding tokens front
 returns-clause-block_ends c = refl
+
+pub returns-clause-symbols : goal.returns-clause-symbols
+unfolding tokens front
+returns-clause-symbols c = refl

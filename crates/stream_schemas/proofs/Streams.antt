@@ -1,10 +1,13 @@
 -- Each tuple of each stream of a run has the stream's attributes, where those in the rows of the sources have.
-use Rattle.std.proofs.Common.{◌≡◌, ℕ, ◌+◌, ◌<◌, ◌==◌, Bool, List, [], ◌∷◌, refl, sym, ap, subst, ◌∙◌, length, slice_get, Option, Some, None, position, arith}
-use Rattle.std.specs.List.{AllByRecursion}
+use Rattle.std.proofs.Common.{true, ◌≡◌, ℕ, ◌+◌, ◌<◌, ◌==◌, Bool, List, [], ◌∷◌, refl, sym, ap, subst, ◌∙◌, length, slice_get, Option, Some, None, position, arith, ◌++◌, reverse}
+use Rattle.std.specs.List.{AllByRecursion, cons_option, filter_map, list_all}
+use Rattle.std.proofs.lemmas.List.{reverse-append}
 use Rattle.std.specs.Option.{option_map_or}
 use Rattle.std.proofs.lemmas.Option.{slice_get_within}
+use Rattle.std.proofs.lemmas.Bool.{and_from}
 use Rattle.spl_value.specs.declared.item.Item.{Item}
 use Rattle.spl_value.specs.declared.item.Item.TheVariants as I
+use Rattle.spl_value.specs.Numbered.{item_fits}
 use Rattle.language_model.specs.declared.checked.CheckedClauses.{CheckedClauses}
 use Rattle.language_model.specs.declared.checked.CheckedClauses.TheVariants as A
 use Rattle.language_model.specs.CheckedGraph.{CheckedGraph}
@@ -12,7 +15,7 @@ use Rattle.language_model.specs.Keeping.{Keeps}
 use Rattle.language_model.specs.StreamTypes.{Attributes}
 use Rattle.stream_model.specs.CheckedMeaning.{graph_of, schema_at}
 use Rattle.stream_model.specs.Fitting.{EventFits, EventsFit, IsFitting}
-use Rattle.stream_model.specs.Meaning.{Graph, Lists, Entries, events_of, made_by, makes, streams_of}
+use Rattle.stream_model.specs.Meaning.{Graph, Lists, Entries, in_topo, events_of, made_by, makes, streams_of, meaning}
 use Rattle.stream_model.specs.Operators.{Operator, connections, input_attributes, output_attributes, ports}
 use Rattle.stream_model.specs.parts.Operators.{port_at}
 use Rattle.stream_model.specs.Replies.{ItemHas, given_attributes}
@@ -22,15 +25,36 @@ use Rattle.stream_model.proofs.CheckedOperators.{checked_fits}
 use Rattle.list_engine.specs.Runs.{is_source}
 use Rattle.list_engine.proofs.GraphOperators.{is_numbered}
 use Rattle.list_engine.proofs.Ports.{input_count, input_schema, output_schema, source_out}
-use Rattle.fault_laws.specs.RunFaults.{SourcesFit}
-use Rattle.fault_laws.proofs.Coming.{OfEach, events_each, place_is}
-use Rattle.fault_laws.proofs.Fitting.{out_fits}
+use Rattle.stream_schemas.specs.Schemas.{SourcesFit, StreamsLaw, ItemsLaw}
+use Rattle.stream_schemas.proofs.Coming.{OfEach, events_each, place_is}
+use Rattle.stream_schemas.proofs.Fitting.{out_fits}
 use Rattle.stream_model.proofs.GraphParts.{operator_at}
 
 -- ---- the operators of a graph
 
 abbrev pub IsIn : Graph → Operator → Type 0
 IsIn g op = (n : ℕ) × (slice_get g.ops n ≡ Some op)
+
+both_in : (g : Graph) (a b : List Operator) → AllByRecursion (IsIn g) a → AllByRecursion (IsIn g) b → AllByRecursion (IsIn g) (a ++ b)
+both_in g [] b h k = k
+both_in g (o ∷ a) b h k = (h.0, both_in g a b h.1 k)
+
+reverse_in : (g : Graph) (ops : List Operator) → AllByRecursion (IsIn g) ops → AllByRecursion (IsIn g) (reverse ops)
+reverse_in g [] h = tt
+reverse_in g (o ∷ ops) h =
+    subst (AllByRecursion (IsIn g)) (sym (reverse-append (o ∷ []) ops)) (both_in g (reverse ops) (o ∷ []) (reverse_in g ops h.1) (h.0, tt))
+
+numbers_in : (g : Graph) (numbers : List ℕ) → AllByRecursion (IsIn g) (filter_map (slice_get g.ops) numbers)
+numbers_in g [] = tt
+numbers_in g (n ∷ numbers) = go (slice_get g.ops n) refl (numbers_in g numbers)
+  where
+    go : (found : Option Operator) → slice_get g.ops n ≡ found → AllByRecursion (IsIn g) (filter_map (slice_get g.ops) numbers)
+        → AllByRecursion (IsIn g) (cons_option found (filter_map (slice_get g.ops) numbers))
+    go None q rest = rest
+    go (Some op) q rest = ((n, q), rest)
+
+pub all_in : (g : Graph) → AllByRecursion (IsIn g) (reverse (in_topo g))
+all_in g = reverse_in g (in_topo g) (numbers_in g g.topo)
 
 -- events that fit, one by one
 events_fit : (op : Operator) (events : List Event) → AllByRecursion (EventFits op) events → EventsFit op events
@@ -41,9 +65,9 @@ came_fit : (op : Operator) (i : ℕ) (schema : Attributes) (items : List Item) �
     → OfEach (EventFits op) i items
 came_fit op i schema [] within same h = tt
 came_fit op i schema (I.Tuple vs ∷ items) within same h = ((within, subst (λ s. ItemHas s (I.Tuple vs)) (sym same) h.0), came_fit op i schema items within same h.1)
-came_fit op i schema (I.Window ∷ items) within same h = ((within, tt), came_fit op i schema items within same h)
-came_fit op i schema (I.Final ∷ items) within same h = ((within, tt), came_fit op i schema items within same h)
-came_fit op i schema (I.Bad f ∷ items) within same h = ((within, tt), came_fit op i schema items within same h)
+came_fit op i schema (I.Window ∷ items) within same h = ((within, refl), came_fit op i schema items within same h)
+came_fit op i schema (I.Final ∷ items) within same h = ((within, refl), came_fit op i schema items within same h)
+came_fit op i schema (I.Bad f ∷ items) within same h = ((within, refl), came_fit op i schema items within same h)
 
 module _ (c : CheckedGraph) (g : Graph) (keeps : Keeps c) (is : graph_of c ≡ g) where
   pub clauses_fit : (op : Operator) → IsIn g op → IsFitting op
@@ -113,3 +137,18 @@ module _ (c : CheckedGraph) (g : Graph) (keeps : Keeps c) (is : graph_of c ≡ g
         go (Some p) q rest =
             made_fits op h.0 p s (events_of op (streams_of earlier rows entries) (entries op.number)) (place_is s op.outs p q)
             (inputs_fit op h.0 (streams_of earlier rows entries) (entries op.number) rest)
+
+pub streams_law : StreamsLaw
+streams_law c rows entries keeps fit s = streams_fit c (graph_of c) keeps refl rows fit entries (reverse (in_topo (graph_of c))) (all_in (graph_of c)) s
+
+items_fit : (schema : Attributes) (items : List Item) → TuplesFit schema items → list_all (item_fits schema) items ≡ true
+items_fit schema [] h = refl
+items_fit schema (I.Tuple vs ∷ items) h =
+    and_from (item_fits schema (I.Tuple vs)) (list_all (item_fits schema) items) h.0 (items_fit schema items h.1)
+items_fit schema (I.Window ∷ items) h = items_fit schema items h
+items_fit schema (I.Final ∷ items) h = items_fit schema items h
+items_fit schema (I.Bad f ∷ items) h = items_fit schema items h
+
+pub items_law : ItemsLaw
+items_law c rows entries keeps fit s =
+    items_fit (schema_at c s) ((meaning (graph_of c) rows entries).streams s) (streams_law c rows entries keeps fit s)

@@ -1,9 +1,8 @@
 -- The files of the sources and sinks of a checked graph, and that each sink has one of its own.
-use Rattle.std.specs.Prelude.{◌≡◌, ℕ, Bool, true, false, List, ◌∷◌, ◌++◌, filter_map, Option, Some, None}
-use Rattle.std.specs.List.{list_any}
-use Rattle.std.specs.Str.{bytes_eq}
+use Rattle.std.specs.Prelude.{◌≡◌, ℕ, true, false, List, ◌∷◌, ◌++◌, filter_map, Option, Some, None}
 use Rattle.language_model.specs.declared.checked.CheckedClauses.{CheckedClauses}
 use Rattle.language_model.specs.declared.checked.CheckedClauses.TheVariants as A
+use Rattle.language_model.specs.Names.{is_named}
 
 -- the file that an operator reads, by its clauses
 abbrev pub source_file : CheckedClauses → Option (List ℕ)
@@ -21,12 +20,9 @@ source_files parts = filter_map source_file parts
 abbrev pub sink_files : List CheckedClauses → List (List ℕ)
 sink_files parts = filter_map sink_file parts
 
--- the name is one of these
-abbrev pub is_named : List (List ℕ) → List ℕ → Bool
-is_named names name = list_any (λ n. bytes_eq n name) names
-
 -- no sink's file is another sink's, a source's or one of the names
 pub record OwnFiles (names : List (List ℕ)) (parts : List CheckedClauses) : Type 0 where
-  pub once : (before after : List CheckedClauses) (file : List ℕ) → parts ≡ before ++ A.FileSink file ∷ after → is_named (sink_files after) file ≡ false
+  pub once : (before after : List CheckedClauses) (file : List ℕ) → parts ≡ before ++ A.FileSink file ∷ after
+      → is_named (sink_files after) file ≡ false
   pub apart : (file : List ℕ) → is_named (sink_files parts) file ≡ true → is_named (source_files parts) file ≡ false
   pub free : (file : List ℕ) → is_named (sink_files parts) file ≡ true → is_named names file ≡ false

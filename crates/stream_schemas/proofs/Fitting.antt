@@ -2,15 +2,22 @@
 use Rattle.std.proofs.Common.{◌≡◌, ℕ, Bool, true, false, List, [], ◌∷◌, refl, Option, Some, None, is_some, is_none}
 use Rattle.std.proofs.lemmas.Bool.{and_from}
 use Rattle.spl_value.specs.declared.item.Item.{Item}
-use Rattle.stream_model.specs.Fitting.{EventFits, EventsFit, IsFitting}
+use Rattle.stream_model.specs.Fitting.{EventFits, EventsFit, IsFitting, ReactsFit}
 use Rattle.stream_model.specs.Operators.{Operator}
 use Rattle.stream_model.specs.React.{ended, react}
 use Rattle.stream_model.specs.Replies.{AllFit, given_attributes, is_live}
 use Rattle.stream_model.specs.Stages.{gives_all, next, out, start}
 use Rattle.stream_model.specs.Stream.{Event, TuplesFit}
 use Rattle.stream_model.proofs.SimpleFits.{both_fit, none_fit}
-use Rattle.fault_kinds.proofs.Reacting.{fitting}
+use Rattle.stream_model.proofs.AggregateFits.{aggregate_fits}
+use Rattle.stream_model.proofs.FittingEvents.{of_kinds, reacts_fit}
+use Rattle.stream_model.proofs.JoinFits.{join_fits}
+use Rattle.stream_model.proofs.SimpleFits.{simple_fits}
+use Rattle.port_reacts.proofs.CustomFits.{custom_fits}
 use Rattle.list_engine.proofs.Taking.{port_fits}
+
+fitting : ReactsFit
+fitting = reacts_fit (of_kinds simple_fits custom_fits aggregate_fits join_fits)
 
 -- ---- one operator
 
