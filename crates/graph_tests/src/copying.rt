@@ -4,7 +4,8 @@ ghost use Rattle.stream_model.specs.Stream.{is_closed, TuplesFit};
 ghost use Rattle.stream_model.specs.examples.CheckedGraphs.{texts};
 ghost use Rattle.stream_model.specs.CheckedMeaning.{graph_of};
 ghost use Rattle.stream_model.specs.Meaning.{Graph};
-ghost use Rattle.list_engine.specs.Runs.{SinksGiven, meant};
+ghost use Rattle.list_engine.specs.Runs.{meant};
+ghost use Rattle.stream_model.specs.Runs.{SinksGiven};
 ghost use Rattle.graph_tests.specs.Copying.{copying};
 
 use crate::writer::Writer;

@@ -125,12 +125,12 @@ composite A { } => 0; a.txt arrivals 1␊
 # beside what isn't built
 @union | a.csv: 1␊2␊ | b.csv: 3␊ | a.txt: older rows␊ | $ run p.spl --arrivals a.txt --width 1 => 13 not built␊; a.txt older rows␊
 
-# It is created last.
+# It is created last, and where a file can't be created nothing is taken.
 @none | a.txt: older rows␊ => 4 cannot open p.spl␊; a.txt older rows␊
 @union | a.csv: 1␊2␊ | a.txt: older rows␊ => 4 cannot open b.csv␊; a.txt older rows␊
-@union | a.csv: 1␊2␊ | b.csv: 3␊ | a.txt: older rows␊ | fail call 4 => 4 cannot open o.csv␊; a.txt older rows␊
-@union | a.csv: 1␊2␊ | b.csv: 3␊ | a.txt: older rows␊ | fail call 5 => 4 cannot open a.txt␊; o.csv ∅; a.txt older rows␊
-@union | a.csv: 1␊2␊ | b.csv: 3␊ | fail call 5 => 4 cannot open a.txt␊; o.csv ∅
+@union | a.csv: 1␊2␊ | b.csv: 3␊ | a.txt: older rows␊ | fail call 4 => 4 cannot open o.csv␊; a.txt older rows␊; record 2
+@union | a.csv: 1␊2␊ | b.csv: 3␊ | a.txt: older rows␊ | fail call 5 => 4 cannot open a.txt␊; o.csv ∅; a.txt older rows␊; record 2
+@union | a.csv: 1␊2␊ | b.csv: 3␊ | fail call 5 => 4 cannot open a.txt␊; o.csv ∅; record 2
 @pair | a.csv: 1␊2␊ | b.csv: 3␊ | fail call 5 => 4 cannot open y.csv␊; x.csv ∅
 @pair | a.csv: 1␊2␊ | b.csv: 3␊ | fail call 6 => 4 cannot open a.txt␊; x.csv ∅; y.csv ∅
 composite A { } | fail call 2 => 4 cannot open a.txt␊

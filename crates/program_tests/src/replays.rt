@@ -405,9 +405,9 @@ composite Main {graph stream<rstring s> A = FileSource() {param file: "r.txt";} 
 
 # Then the sinks are created and written.
 # one that can't be created
-@union | a.csv: 1␊2␊ | b.csv: 3␊ | fail call 5 | r.txt: arrivals 1␊U 0 1 0 0 0 1 1␊ => 4 cannot open o.csv␊
-@union | a.csv: 1␊x␊ | b.csv: 3␊ | fail call 5 | r.txt: arrivals 1␊U 1 0 0␊ => 4 cannot open o.csv␊
-@two () as X = FileSink(S, T) {param file: "x.csv";} () as Y = FileSink(T, S) {param file: "y.csv";} | s.csv: 1␊ | t.csv: 2␊ | fail call 6 | r.txt: arrivals 1␊X 0 0 0 1 1 1␊Y 0 0 0 1 1 1␊ => 4 cannot open y.csv␊; x.csv ∅
+@union | a.csv: 1␊2␊ | b.csv: 3␊ | fail call 5 | r.txt: arrivals 1␊U 0 1 0 0 0 1 1␊ => 4 cannot open o.csv␊; record 2
+@union | a.csv: 1␊x␊ | b.csv: 3␊ | fail call 5 | r.txt: arrivals 1␊U 1 0 0␊ => 4 cannot open o.csv␊; record 2
+@two () as X = FileSink(S, T) {param file: "x.csv";} () as Y = FileSink(T, S) {param file: "y.csv";} | s.csv: 1␊ | t.csv: 2␊ | fail call 6 | r.txt: arrivals 1␊X 0 0 0 1 1 1␊Y 0 0 0 1 1 1␊ => 4 cannot open y.csv␊; x.csv ∅; record 2; record 3
 # one that can't be written
 @union | a.csv: 1␊2␊ | b.csv: 3␊ | fail write 2 o.csv | r.txt: arrivals 1␊U 0 1 0 0 0 1 1␊ => 6 cannot write o.csv␊; o.csv 1␊; record 2 0 1 0 0 0 1 1
 @union | a.csv: 1␊2␊ | b.csv: 3␊ | fail write 3 o.csv | r.txt: arrivals 1␊U 0 1 0 0 0 1 1␊ => 6 cannot write o.csv␊; o.csv 1␊3␊; record 2 0 1 0 0 0 1 1

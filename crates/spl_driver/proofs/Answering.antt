@@ -7,7 +7,7 @@ use Rattle.feed_pour.specs.Counts.{PerName}
 use Rattle.feed_pour.specs.Contents.{Told, WhereTold}
 use Rattle.language_model.specs.declared.checked.CheckedClauses.{CheckedClauses}
 use Rattle.language_model.specs.CheckedGraph.{CheckedGraph}
-use Rattle.arrival_format.specs.ArrivalTexts.{arrivals_text}
+use Rattle.arrival_format.specs.ArrivalTexts.{Spells, arrivals_text}
 use Rattle.stream_model.specs.Ends.{run_fault}
 use Rattle.stream_model.specs.Meaning.{Graph, Meaning}
 use Rattle.run_report.specs.declared.cause.Cause.{Cause}
@@ -17,11 +17,12 @@ use Rattle.stream_model.specs.Operators.{Operator}
 use Rattle.command_line.specs.declared.request.Request.{Request}
 use Rattle.spl_driver.specs.Outcome.{RequestOutcome, NoRequest, Unreadable, Refused, NotBuilt, Reports, BadArrivals, Runs, IsFound, IsOutcome, ArePartsIn, of_program, of_unreadable}
 use Rattle.std.specs.Str.{bytes_eq}
-use Rattle.check_laws.specs.Files.{is_named, sink_file}
+use Rattle.language_model.specs.Files.{sink_file}
+use Rattle.language_model.specs.Names.{is_named}
 use Rattle.command_line.specs.declared.request.Request.TheVariants as R
 use Rattle.spl_driver.specs.Built.{is_built}
 use Rattle.spl_driver.specs.Files.{FilesOf, files_of, opens, whole_files}
-use Rattle.spl_driver.specs.Answer.{EachSink, HoldsText, HoldsPrefix, sink_text, CarriedOut, RunsTo, ReportsTo, Begun, CauseMeans, CreatingFailed, DeviceFailed, opening, reading, creating, writing, DevicesMean, ReadingFailed, WritingFailed, WroteOthers, StoppedBy, WholeReads, Answered, IsOr, IsRun, IsUnread, NeedsRecord, FollowsRecord, RecordHolds, WritesRecord, of_record, of_sink, of_telling, IsAnswer, IsComplete, ByWords, MayBe, NoCountChanged, cause_of}
+use Rattle.spl_driver.specs.Answer.{ComesInOrder, FollowsBy, WroteNothing, EachSink, HoldsText, HoldsPrefix, sink_text, CarriedOut, RunsTo, ReportsTo, Begun, CauseMeans, CreatingFailed, DeviceFailed, opening, reading, creating, writing, DevicesMean, ReadingFailed, WritingFailed, WroteOthers, StoppedBy, WholeReads, Answered, IsOr, IsRun, IsUnread, NeedsRecord, FollowsRecord, RecordHolds, WritesRecord, of_record, of_sink, of_telling, IsAnswer, IsComplete, ByWords, MayBe, NoCountChanged, cause_of}
 use Rattle.source_rows.specs.Counting.{OnlyReads, OpeningFailed}
 use Rattle.spl_driver.specs.steps.Telling.{ToldAs}
 use Rattle.spl_driver.specs.RequestLaws.{OneOutcomeLaw}
@@ -31,11 +32,10 @@ use Rattle.command_line.specs.Request.{file_names}
 use Rattle.spl_driver.proofs.ReplayLaw.{run_at}
 use Rattle.spl_driver.proofs.Requests.{IsUnreadable, unread_by}
 use Rattle.spl_driver.proofs.Showing.{with_cause}
-use Rattle.spl_driver.proofs.Standing.{ended_is, ended_run}
+use Rattle.spl_driver.proofs.Standing.{follows_run}
 use Rattle.spl_driver.proofs.Running.{begun_same}
 use Rattle.spl_value.proofs.Bools.{or_true}
 use Rattle.spl_value.proofs.Lists.{same_name}
-use Rattle.spl_driver.specs.steps.Steps.{is_ended_run}
 
 -- ---- what an answer means
 
@@ -183,7 +183,13 @@ abbrev NamesFile : Cause → Type 0
 NamesFile (C.OpenFailed name) = Unit {0}
 NamesFile (C.ReadFailed name) = Unit {0}
 NamesFile (C.WriteFailed name) = Unit {0}
-NamesFile _ = ⊥
+NamesFile C.Done = ⊥
+NamesFile (C.Stopped fault) = ⊥
+NamesFile C.BadWords = ⊥
+NamesFile (C.Refused refusal) = ⊥
+NamesFile C.NotBuilt = ⊥
+NamesFile (C.BadArrivals op) = ⊥
+NamesFile C.NoMemory = ⊥
 
 device_failed : (k : Cause) (files : FilesOf) (counts later : PerName) (Is : RequestOutcome → Type 0) (ended : Ended) (t u : Told) → NamesFile k → DevicesMean k files counts later ⊥ Is ended t u
     → DeviceFailed files counts later
@@ -232,24 +238,44 @@ needed_said (Some (R.Replay p file)) ended r status t Text e h = λ fault. needs
 needed_said (Some (R.Simulate p width schedule steps)) ended r status t Text e h = tt
 needed_said (Some (R.Make name rows start)) ended r status t Text e h = tt
 
--- the request was carried out, or what it gave couldn't be written
-abbrev EndedRun : Cause → Type 0
-EndedRun c = IsRun c ⊎ ((name : List ℕ) × (c ≡ C.WriteFailed name))
+-- where memory ran out a record is followed, or nothing was written
+follows_weaker : (k : Cause) (Spelled Unwritten : Type 0) → FollowsBy k Spelled Unwritten → Spelled ⊎ Unwritten
+follows_weaker C.Done Spelled Unwritten h = inl h
+follows_weaker (C.Stopped fault) Spelled Unwritten h = inl h
+follows_weaker (C.WriteFailed name) Spelled Unwritten h = inl h
+follows_weaker C.NoMemory Spelled Unwritten h = h
+follows_weaker C.NotBuilt Spelled Unwritten h = inr h
+follows_weaker C.BadWords Spelled Unwritten h = inr h
+follows_weaker (C.Refused refusal) Spelled Unwritten h = inr h
+follows_weaker (C.OpenFailed name) Spelled Unwritten h = inr h
+follows_weaker (C.ReadFailed name) Spelled Unwritten h = inr h
+follows_weaker (C.BadArrivals op) Spelled Unwritten h = inr h
 
-ended_before : (c r : Cause) (Text : Type 0) → ToldAs c r Text → EndedRun r → EndedRun c
-ended_before c r Text (inl e) h = ended_is c (ap is_ended_run (sym e) ∙ ended_run r h)
-ended_before c r Text (inr (inl e)) h = absurd (let bad : false ≡ true = sym (ap is_ended_run e) ∙ ended_run r h in cc)
-ended_before c r Text (inr (inr (e, run, text))) h = inl run
+follows_said : (k r : Cause) (Spelled Unwritten Text : Type 0) → ToldAs k r Text → FollowsBy k Spelled Unwritten
+    → FollowsBy r Spelled Unwritten
+follows_said k r Spelled Unwritten Text (inl e) h = subst (λ (c : Cause). FollowsBy c Spelled Unwritten) (sym e) h
+follows_said k r Spelled Unwritten Text (inr (inl e)) h =
+    subst (λ (c : Cause). FollowsBy c Spelled Unwritten) (sym e) (follows_weaker k Spelled Unwritten h)
+follows_said k r Spelled Unwritten Text (inr (inr (e, run, text))) h =
+    subst (λ (c : Cause). FollowsBy c Spelled Unwritten) (sym e) (follows_run k Spelled Unwritten run h)
 
-followed_said : (request : Option Request) (Is : RequestOutcome → Type 0) (ended : Ended) (r : Cause) (status : ℕ) (t : Told) (Text : Type 0) → ToldAs ended.cause r Text → FollowsRecord request Is ended t
-    → FollowsRecord request Is (with_cause ended r status) t
-followed_said None Is ended r status t Text e h = tt
-followed_said (Some (R.Check p)) Is ended r status t Text e h = tt
-followed_said (Some (R.Plan p)) Is ended r status t Text e h = tt
-followed_said (Some (R.Run p options)) Is ended r status t Text e h = tt
-followed_said (Some (R.Replay p file)) Is ended r status t Text e h = λ run. h (ended_before ended.cause r Text e run)
-followed_said (Some (R.Simulate p width schedule steps)) Is ended r status t Text e h = tt
-followed_said (Some (R.Make name rows start)) Is ended r status t Text e h = tt
+followed_said : (request : Option Request) (Is : RequestOutcome → Type 0) (ended : Ended) (r : Cause) (status : ℕ) (t u : Told) (Text : Type 0)
+    → ToldAs ended.cause r Text → FollowsRecord request Is ended t u → FollowsRecord request Is (with_cause ended r status) t u
+followed_said None Is ended r status t u Text e h = tt
+followed_said (Some (R.Check p)) Is ended r status t u Text e h = tt
+followed_said (Some (R.Plan p)) Is ended r status t u Text e h = tt
+followed_said (Some (R.Run p options)) Is ended r status t u Text e h = tt
+followed_said (Some (R.Replay p file)) Is ended r status t u Text e h = λ c g m is.
+    follows_said ended.cause r (Spells c (t.script file).bytes ended.arrivals) (WroteNothing c ended t u) Text e (h c g m is)
+followed_said (Some (R.Simulate p width schedule steps)) Is ended r status t u Text e h = tt
+followed_said (Some (R.Make name rows start)) Is ended r status t u Text e h = tt
+
+-- the order of refusals stays
+in_order_said : (request : Option Request) (Is : RequestOutcome → Type 0) (k r : Cause) (Text : Type 0) → ToldAs k r Text
+    → ComesInOrder k request Is → ComesInOrder r request Is
+in_order_said request Is k r Text (inl e) h = subst (λ (c : Cause). ComesInOrder c request Is) (sym e) h
+in_order_said request Is k r Text (inr (inl e)) h = subst (λ (c : Cause). ComesInOrder c request Is) (sym e) tt
+in_order_said request Is k r Text (inr (inr (e, run, text))) h = subst (λ (c : Cause). ComesInOrder c request Is) (sym e) tt
 
 -- the file of the record that a run writes
 record_text : (k : Cause) (parts : List CheckedClauses) (file text : List ℕ) (counts now : PerName) (Text Sinks : Type 0) (t u : Told) → RecordHolds k parts file text counts now ⊥ Sinks t u → RecordHolds k parts file text counts now Text Sinks t u
@@ -335,7 +361,8 @@ answered_said law (Some t) (Some u) request ended r status counts later Text e h
   whole = λ parts are. whole_said ended.cause r (files_of request parts) counts later t Text e (h.whole parts are);
   reads = h.reads;
   needed = needed_said request ended r status t Text e h.needed;
-  followed = followed_said request (IsOutcome t ended.arrivals request) ended r status t Text e h.followed;
+  followed = followed_said request (IsOutcome t ended.arrivals request) ended r status t u Text e h.followed;
+  in_order = in_order_said request (IsOutcome t ended.arrivals request) ended.cause r Text e h.in_order;
   recorded = recorded_said request ended r status counts later Text t u e h.device h.recorded;
 }
 

@@ -20,14 +20,15 @@ use Rattle.command_line.specs.declared.request.RunOptions.{RunOptions}
 use Rattle.std.specs.List.{cons_option}
 use Rattle.std.specs.Option.{option_to_list}
 use Rattle.command_line.specs.Request.{file_names}
-use Rattle.check_laws.specs.Files.{source_files, sink_files, is_named}
+use Rattle.language_model.specs.Files.{source_files, sink_files}
+use Rattle.language_model.specs.Names.{is_named}
 use Rattle.source_rows.specs.Counting.{OpeningFailed}
 use Rattle.spl_driver.specs.Files.{FilesOf, creates, files_of, row_files}
 use Rattle.spl_driver.specs.Outcome.{IsReplay, has_record_fault, OfPlan, OfSize, Report, RequestOutcome, Reports}
-use Rattle.spl_driver.specs.Answer.{CauseMeans, CreatingFailed, DevicesMean, DevicesShow, ReadingFailed, StoppedBy, WholeReads, WritingFailed, IsUnread, MayBe, NeedsRecord, is_report, uncounted}
+use Rattle.spl_driver.specs.Answer.{FollowsBy, WroteNothing, CauseMeans, CreatingFailed, DevicesMean, DevicesShow, ReadingFailed, StoppedBy, WholeReads, WritingFailed, IsUnread, MayBe, NeedsRecord, is_report, uncounted}
 use Rattle.spl_driver.specs.Texts.{IsReportText, wants_counts}
 use Rattle.spl_driver.specs.steps.Telling.{IsText}
-use Rattle.spl_driver.specs.steps.Steps.{CountsShow, FilesShow, FollowsFile, IsAcceptedOutcome, IsNamedBy, IsRunOf, IsToldAcceptedOutcome, MayBeOutcome, ReplayComes, RecordFor, RecordOf, RunComes, created_by, replay_files, run_files, is_bad_arrivals, is_ended_run}
+use Rattle.spl_driver.specs.steps.Steps.{ReadInOrder, SpelledUnless, CountsShow, FilesShow, FollowsFile, IsAcceptedOutcome, IsNamedBy, IsRunOf, IsToldAcceptedOutcome, MayBeOutcome, ReplayComes, RecordFor, RecordOf, RunComes, created_by, replay_files, run_files, is_bad_arrivals, is_ended_run}
 use Rattle.spl_driver.proofs.Causes.{is_replay}
 use Rattle.spl_driver.specs.declared.ended.Ended.{Ended}
 use Rattle.arrival_format.specs.ArrivalTexts.{Spells}
@@ -282,19 +283,50 @@ ran_text told request p options c ended text counts now e h = subst (λ (q : Req
 
 -- ---- the record that is followed
 
-pub follows_unless : (told : Option Told) (request : Request) (c : CheckedGraph) (ended : Ended) → is_replay (Some request) ≡ false → IfSome told (FollowsFile request c ended)
-follows_unless None request c ended other = tt
-follows_unless (Some t) (R.Check p) c ended other = tt
-follows_unless (Some t) (R.Plan p) c ended other = tt
-follows_unless (Some t) (R.Run p options) c ended other = tt
-follows_unless (Some t) (R.Replay p file) c ended other = absurd (let bad : true ≡ false = other in cc)
-follows_unless (Some t) (R.Simulate p width schedule steps) c ended other = tt
-follows_unless (Some t) (R.Make name rows start) c ended other = tt
+follows_other : (request : Request) (c : CheckedGraph) (ended : Ended) (t u : Told) → is_replay (Some request) ≡ false
+    → FollowsFile request c ended t u
+follows_other (R.Check p) c ended t u other = tt
+follows_other (R.Plan p) c ended t u other = tt
+follows_other (R.Run p options) c ended t u other = tt
+follows_other (R.Replay p file) c ended t u other = absurd (let bad : true ≡ false = other in cc)
+follows_other (R.Simulate p width schedule steps) c ended t u other = tt
+follows_other (R.Make name rows start) c ended t u other = tt
 
-pub follows_replay : (told : Option Told) (request : Request) (p file : List ℕ) (c : CheckedGraph) (ended : Ended) → request ≡ R.Replay p file
-    → IfSome told (λ t. is_ended_run ended.cause ≡ true → Spells c (t.script file).bytes ended.arrivals) → IfSome told (FollowsFile request c ended)
-follows_replay None request p file c ended e h = tt
-follows_replay (Some t) request p file c ended e h = subst (λ (q : Request). FollowsFile q c ended t) (sym e) h
+pub follows_unless : (told now : Option Told) (Known : Told → Told → Type 0) (request : Request) (c : CheckedGraph) (ended : Ended)
+    → is_replay (Some request) ≡ false → WhereTold told now Known → WhereTold told now (FollowsFile request c ended)
+follows_unless None now Known request c ended other h = tt
+follows_unless (Some t) None Known request c ended other h = h
+follows_unless (Some t) (Some u) Known request c ended other h = follows_other request c ended t u other
+
+pub follows_replay : (told now : Option Told) (request : Request) (p file : List ℕ) (c : CheckedGraph) (ended : Ended)
+    → request ≡ R.Replay p file
+    → WhereTold told now (λ t u. FollowsBy ended.cause (Spells c (t.script file).bytes ended.arrivals) (WroteNothing c ended t u))
+    → WhereTold told now (FollowsFile request c ended)
+follows_replay None now request p file c ended e h = tt
+follows_replay (Some t) None request p file c ended e h = h
+follows_replay (Some t) (Some u) request p file c ended e h = subst (λ (q : Request). FollowsFile q c ended t u) (sym e) h
+
+-- ---- which refusal comes first
+
+order_other : (request : Request) (c : CheckedGraph) (ended : Ended) (t : Told) → is_replay (Some request) ≡ false
+    → ReadInOrder request c ended t
+order_other (R.Check p) c ended t other = tt
+order_other (R.Plan p) c ended t other = tt
+order_other (R.Run p options) c ended t other = tt
+order_other (R.Replay p file) c ended t other = absurd (let bad : true ≡ false = other in cc)
+order_other (R.Simulate p width schedule steps) c ended t other = tt
+order_other (R.Make name rows start) c ended t other = tt
+
+pub order_unless : (told : Option Told) (request : Request) (c : CheckedGraph) (ended : Ended) → is_replay (Some request) ≡ false
+    → IfSome told (ReadInOrder request c ended)
+order_unless None request c ended other = tt
+order_unless (Some t) request c ended other = order_other request c ended t other
+
+pub order_replay : (told : Option Told) (request : Request) (p file : List ℕ) (c : CheckedGraph) (ended : Ended)
+    → request ≡ R.Replay p file → IfSome told (λ t. SpelledUnless ended.cause file (IsReplay t c file))
+    → IfSome told (ReadInOrder request c ended)
+order_replay None request p file c ended e h = tt
+order_replay (Some t) request p file c ended e h = subst (λ (q : Request). ReadInOrder q c ended t) (sym e) h
 
 -- ---- the record that is needed
 

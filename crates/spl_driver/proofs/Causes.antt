@@ -5,7 +5,7 @@ use Rattle.feed_pour.specs.Counts.{PerName, Rose}
 use Rattle.language_model.specs.CheckedGraph.{CheckedGraph}
 use Rattle.language_model.specs.declared.checked.CheckedClauses.{CheckedClauses}
 use Rattle.stream_model.specs.Ends.{run_fault}
-use Rattle.check_laws.specs.Files.{source_file}
+use Rattle.language_model.specs.Files.{source_file}
 use Rattle.run_report.specs.declared.cause.Cause.{Cause}
 use Rattle.run_report.specs.declared.cause.Cause.TheVariants as C
 use Rattle.command_line.specs.declared.request.Request.{Request}

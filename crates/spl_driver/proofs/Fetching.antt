@@ -9,7 +9,7 @@ use Rattle.feed_pour.specs.Contents.{Told, WhereTold, TellsSame}
 use Rattle.feed_pour.specs.Named.{FetchedOf, FetchCounted, open_failed, read_failed}
 use Rattle.feed_pour.specs.declared.named.Fetched.{Fetched}
 use Rattle.feed_pour.specs.declared.named.Fetched.TheVariants as F
-use Rattle.check_laws.specs.Files.{is_named}
+use Rattle.language_model.specs.Names.{is_named}
 use Rattle.source_rows.specs.Counting.{OnlyRead, OnlyReads}
 use Rattle.source_rows.specs.Sources.{ReadsFail, is_failed}
 use Rattle.spl_driver.specs.Outcome.{fails_within}

@@ -10,6 +10,7 @@ pub mod Telling
 pub mod Fetching
 pub mod Programs
 pub mod Standing
+mod SoFar
 pub mod Showing
 pub mod Operators
 pub mod SinkLemmas

@@ -1,23 +1,31 @@
 -- A run in an order: what is known of it, by what is known of one under its own record.
-use Rattle.std.proofs.Common.{◌≡◌, ◌∙◌, ℕ, Bool, true, false, List, refl, sym, ap, subst, inl, inr, Option, Some, None, Result, Ok, Err}
-use Rattle.std.specs.Prelude.{IfSome, IfOk}
+use Rattle.std.proofs.Common.{◌≡◌, ◌∙◌, arith, suc, ℕ, Bool, true, false, List, [], ◌∷◌, map, take, refl, sym, ap, subst, inl, inr, ◌⊎◌, Option, Some, None, Result, Ok, Err}
+use Rattle.std.specs.Prelude.{IfSome, IfOk, ◌||◌}
+use Rattle.std.specs.Bool.{Decides}
+use Rattle.std.specs.List.{All}
+use Rattle.std.specs.Str.{bytes_eq}
+use Rattle.std.proofs.lemmas.Slice.Eq.{bytes_eq-Decides}
 use Rattle.spl_value.specs.declared.item.Fault.{Fault}
+use Rattle.spl_value.specs.declared.item.Item.{Item}
 use Rattle.spl_value.specs.declared.memory.NoMemory.{NoMemory}
 use Rattle.feed_pour.specs.Counts.{PerName}
 use Rattle.feed_pour.specs.Contents.{Told, WhereTold, TellsSame}
 use Rattle.language_model.specs.CheckedGraph.{CheckedGraph}
 use Rattle.language_model.specs.Keeping.{Keeps}
 use Rattle.stream_model.specs.declared.record.Arrivals.{Arrivals}
+use Rattle.stream_model.specs.Arrivals.{several}
 use Rattle.stream_model.specs.CheckedMeaning.{graph_of}
+use Rattle.stream_model.specs.Meaning.{Graph}
 use Rattle.stream_model.specs.Ends.{run_fault}
 use Rattle.run_report.specs.declared.cause.Cause.{Cause}
 use Rattle.run_report.specs.declared.cause.Cause.TheVariants as C
 use Rattle.run_report.specs.Texts.{status_text}
-use Rattle.check_laws.specs.Files.{source_files, OwnFiles}
+use Rattle.language_model.specs.Files.{source_files, OwnFiles}
+use Rattle.language_model.specs.Names.{is_named}
 use Rattle.file_adapters.specs.declared.sinks.Sink.{Sink}
 use Rattle.file_adapters.specs.declared.sinks.Sunk.{Sunk}
 use Rattle.file_adapters.specs.declared.sinks.Sunk.TheVariants as S
-use Rattle.file_adapters.specs.Sinks.{FilesCounted, FilesWritten, SinksCount, SinksHold, names_of}
+use Rattle.file_adapters.specs.Sinks.{FilesCounted, FilesWritten, OtherNamesStay, SinksCount, SinksHold, names_of}
 use Rattle.file_adapters.specs.declared.text.TextFile.{TextFile}
 use Rattle.list_engine.specs.declared.run.Run.{Run}
 use Rattle.list_engine.specs.declared.run_order.Order.{Order}
@@ -26,14 +34,15 @@ use Rattle.list_engine.specs.RunLaws.{SinkLaw}
 use Rattle.source_rows.specs.Counting.{OnlyReads}
 use Rattle.source_rows.specs.Sources.{ReadsFail}
 use Rattle.spl_driver.specs.Outcome.{RequestOutcome, BadArrivals, IsUnder, meant, run_outcome}
-use Rattle.spl_driver.specs.Answer.{Begun, CauseMeans, DevicesMean, IsOr, cause_of}
+use Rattle.spl_driver.specs.Answer.{Begun, CauseMeans, DevicesMean, FollowsBy, IsOr, OnlyEmptied, SameFiles, WroteNothing, cause_of}
 use Rattle.spl_driver.specs.steps.Telling.{IsText}
 use Rattle.spl_driver.specs.steps.Steps.{EndsBehind, FilesShow, FollowsOrder, IsRunAs, IsRunOf, MayEndIn, NotWholeFor, RanFor, RanIn, RecordedBy, RunComes, RunComesAs, created_by, run_files, sinks_of, is_bad_arrivals, is_ended_run}
 use Rattle.spl_driver.proofs.Causes.{EndsWith}
 use Rattle.spl_driver.specs.declared.ended.Ended.{Ended}
 use Rattle.spl_driver.proofs.Replaying.{one_under}
 use Rattle.spl_driver.proofs.Running.{AreCreated, FileAt, at_cause, begun_empty, file_at, sunk_each, sunk_files, sunken_of, wrote}
-use Rattle.spl_driver.proofs.Standing.{devices_map, means_map, text_map}
+use Rattle.spl_driver.proofs.SoFar.{untaken_record}
+use Rattle.spl_driver.proofs.Standing.{devices_map, follows_unwritten, means_map, text_map}
 use Rattle.spl_driver.proofs.Fetching.{same_told}
 
 -- ---- what the files hold
@@ -113,9 +122,17 @@ sunk_in_order (O.Recorded given) law (Some t) (Some s) (Some u) r sinks last wri
 
 -- ---- its record
 
-pub follows_not : (order : Order) (ended : Ended) → is_ended_run ended.cause ≡ false → FollowsOrder order ended
-follows_not O.InTurn ended e = tt
-follows_not (O.Recorded given) ended e = λ run. absurd (let bad : false ≡ true = sym e ∙ run in cc)
+follows_in : (order : Order) (c : CheckedGraph) (ended : Ended) (t u : Told) → is_ended_run ended.cause ≡ false → SameFiles t u
+    → FollowsOrder order c ended t u
+follows_in O.InTurn c ended t u e same = tt
+follows_in (O.Recorded given) c ended t u e same =
+    follows_unwritten ended.cause (ended.arrivals ≡ given) (WroteNothing c ended t u) e (inl same)
+
+pub follows_not : (order : Order) (c : CheckedGraph) (ended : Ended) (told now : Option Told) → is_ended_run ended.cause ≡ false
+    → WhereTold told now TellsSame → WhereTold told now (FollowsOrder order c ended)
+follows_not order c ended None now e same = tt
+follows_not order c ended (Some t) None e same = same
+follows_not order c ended (Some t) (Some u) e same = follows_in order c ended t u e same.holds
 
 pub may_end : (order : Order) (cause : Cause) → is_bad_arrivals cause ≡ false → MayEndIn order cause
 may_end O.InTurn cause e = e
@@ -133,11 +150,83 @@ recorded_run (S.NotCreated place) c fault names ended arrivals (name, at) ends r
 recorded_run (S.NotWritten place) c fault names ended arrivals at ends recorded run = recorded
 recorded_run S.Memory c fault names ended arrivals at ends recorded run = recorded
 
-pub sunk_follows : (order : Order) (told : Option Told) (r : Sunk) (c : CheckedGraph) (names : List (List ℕ)) (run : Run) (ended : Ended) (old new : PerName) → FilesCounted r names old new → RanIn c order run told
-    → EndsBehind r run.fault c names ended → RecordedBy r ended run.arrivals → FollowsOrder order ended
-sunk_follows O.InTurn told r c names run ended old new counted into ends recorded = tt
-sunk_follows (O.Recorded given) told r c names run ended old new counted into ends recorded =
-    λ ran. recorded_run r c run.fault names ended run.arrivals (file_at r names old new counted) ends recorded ran ∙ into.given given refl
+-- the cause of a run that ended, or of which what it gave couldn't be written
+follows_done : (fault : Option Fault) (Spelled Unwritten : Type 0) → Spelled → FollowsBy (cause_of fault) Spelled Unwritten
+follows_done None Spelled Unwritten h = h
+follows_done (Some f) Spelled Unwritten h = h
+
+or_cases : (a b : Bool) → (a || b) ≡ true → (a ≡ true) ⊎ (b ≡ true)
+or_cases true b e = inl refl
+or_cases false b e = inr e
+
+equal_names : (m n : List ℕ) → bytes_eq m n ≡ true → m ≡ n
+equal_names m n e = elim (bytes_eq m n) as (λ r. Decides r (m ≡ n) → r ≡ true → m ≡ n) [
+  | true ↦ λ d is. d.0 refl
+  | false ↦ λ d is. cc
+] (bytes_eq-Decides m n) e
+
+-- where some files were created, they are empty
+named_empty : (names : List (List ℕ)) (n : List ℕ) (u : Told) → All (λ m. u.holds m ≡ Some []) names → is_named names n ≡ true
+    → u.holds n ≡ Some []
+named_empty [] n u empty named = absurd (let bad : false ≡ true = named in cc)
+named_empty (m ∷ names) n u empty named =
+    by (named_empty names n u (λ k d small. empty (suc k) d (omega (arith, small)))) (or_cases (bytes_eq m n) (is_named names n) named)
+  where
+    by : (is_named names n ≡ true → u.holds n ≡ Some []) → (bytes_eq m n ≡ true) ⊎ (is_named names n ≡ true) → u.holds n ≡ Some []
+    by later (inl same) = ap u.holds (sym (equal_names m n same)) ∙ empty 0 m (omega arith)
+    by later (inr rest) = later rest
+
+-- files were emptied at most
+emptied_only : (names : List (List ℕ)) (t u : Told) → All (λ m. u.holds m ≡ Some []) names → OtherNamesStay names t.holds u.holds
+    → OnlyEmptied t u
+emptied_only names t u empty others n = by (is_named names n) refl
+  where
+    by : (b : Bool) → is_named names n ≡ b → (u.holds n ≡ t.holds n) ⊎ (u.holds n ≡ Some [])
+    by true named = inr (named_empty names n u empty named)
+    by false free = inl (others n free)
+
+-- a run has the record that is given, or nothing was written
+module _ (given : Arrivals) (c : CheckedGraph) (run : Run) (ended : Ended) (t u : Told) (same : run.arrivals ≡ given) where
+  abbrev Follows : Cause → Type 0
+  Follows k = FollowsBy k (ended.arrivals ≡ given) (WroteNothing c ended t u)
+
+  follows_sunk : (r : Sunk) (names : List (List ℕ)) (streams : List (List Item)) (sinks : List Sink) (counts now : PerName)
+      → map (λ l. l.op) run.arrivals.lists ≡ several (graph_of c) → SinksHold r sinks names streams counts now t u → FileAt r names
+      → EndsBehind r run.fault c names ended → RecordedBy r ended run.arrivals → Follows ended.cause
+  follows_sunk (S.Done ns) names streams sinks counts now ops holds at (inl (is, counted)) recorded =
+      subst Follows (sym is) (follows_done run.fault (ended.arrivals ≡ given) (WroteNothing c ended t u) (recorded ∙ same))
+  follows_sunk (S.Done ns) names streams sinks counts now ops holds at (inr is) recorded =
+      subst Follows (sym is) (inl (recorded ∙ same))
+  follows_sunk (S.NotCreated place) names streams sinks counts now ops holds (name, at) ends recorded = by (ends name at)
+    where
+      none : WroteNothing c ended t u
+      none = inr (
+        emptied_only (take place names) t u holds.empty holds.others,
+        untaken_record (graph_of c) run.arrivals ended.arrivals ops recorded.0,
+      )
+
+      by : IsOr (C.OpenFailed name) ended.cause → Follows ended.cause
+      by (inl is) = subst Follows (sym is) none
+      by (inr is) = subst Follows (sym is) (inr none)
+  follows_sunk (S.NotWritten place) names streams sinks counts now ops holds (name, at) ends recorded = by (ends name at)
+    where
+      by : IsOr (C.WriteFailed name) ended.cause → Follows ended.cause
+      by (inl is) = subst Follows (sym is) (recorded ∙ same)
+      by (inr is) = subst Follows (sym is) (inl (recorded ∙ same))
+  follows_sunk S.Memory names streams sinks counts now ops holds at is recorded = subst Follows (sym is) (inl (recorded ∙ same))
+
+pub sunk_follows : (order : Order) (told mid now : Option Told) (r : Sunk) (sinks : List Sink) (last : Option TextFile) (c : CheckedGraph) (run : Run) (ended : Ended) (counts between later : PerName)
+    → RanFor c run told counts between → RanIn c order run told → WhereTold told mid TellsSame → WhereTold mid now (FilesWritten r sinks run.sinks last between later) → FilesCounted r (names_of sinks last) between later
+    → EndsBehind r run.fault c (names_of sinks last) ended → RecordedBy r ended run.arrivals → WhereTold told now (FollowsOrder order c ended)
+sunk_follows order None mid now r sinks last c run ended counts between later p into same h counted ends recorded = tt
+sunk_follows order (Some t) None now r sinks last c run ended counts between later p into same h counted ends recorded = absurd same
+sunk_follows order (Some t) (Some s) None r sinks last c run ended counts between later p into same h counted ends recorded = absurd h
+sunk_follows O.InTurn (Some t) (Some s) (Some u) r sinks last c run ended counts between later p into same h counted ends recorded = tt
+sunk_follows (O.Recorded given) (Some t) (Some s) (Some u) r sinks last c run ended counts between later p into same h counted ends recorded =
+    let held = subst (λ (x : Told). FilesWritten r sinks run.sinks last between later x u) (same_told t s same) h in
+    follows_sunk given c run ended t u (into.given given refl) r (names_of sinks last) run.sinks sinks between later
+    (subst (λ (g : Graph). map (λ l. l.op) run.arrivals.lists ≡ several g) (sym p.is) p.recorded.lists) held.holds
+    (file_at r (names_of sinks last) between later counted) ends recorded
 
 done_kinds : (fault : Option Fault) → is_bad_arrivals (cause_of fault) ≡ false
 done_kinds None = refl

@@ -24,7 +24,7 @@ use Rattle.spl_driver.proofs.Telling.{not_run}
 
 -- the answer of a cause of which nothing was carried out
 pub plain_request : (told now : Option Told) (request : Option Request) (k : Cause) (answer : Answer) (counts later : PerName) (lent left : ℕ) → answer.ended.cause ≡ k → (IsRun k → ⊥)
-    → IsPlainCause k → IsReason k request → MayBe request k → Shown k request counts later ⊥ → ByWords request k counts later → IfOk answer.text (λ l. l ≡ status_text None k) → NothingRan answer.ended
+    → IsPlainCause k counts later → IsReason k request → MayBe request k → Shown k request counts later ⊥ → ByWords request k counts later → IfOk answer.text (λ l. l ≡ status_text None k) → NothingRan answer.ended
     → (lent < 2 ^ 64 - 257 → left ≡ lent) → WhereTold told now (Answered request answer.ended counts later ⊥) → AnswersRequest request answer told now counts later lent left
 plain_request told now request k answer counts later lent left is other plain reason kind shown words text none given answered = record {
   answered = answered;
@@ -38,17 +38,17 @@ plain_request told now request k answer counts later lent left is other plain re
 }
   where
     text_at : (text : Result (List ℕ) NoMemory) → IfOk text (λ l. l ≡ status_text None k) → IfOk text (IsText (wants_counts request) answer.ended.cause (IsToldOutcome request told answer.ended.arrivals counts later))
-    text_at (Ok l) e = plain_text (wants_counts request) answer.ended.cause k (IsToldOutcome request told answer.ended.arrivals counts later) l is other (plain_record k plain) e
+    text_at (Ok l) e = plain_text (wants_counts request) answer.ended.cause k (IsToldOutcome request told answer.ended.arrivals counts later) l is other (plain_record k counts later plain) e
     text_at (Err x) e = tt
 
 -- the answer of a cause, or of a lack of memory for its name, after which no count is shown by the words
-pub named_request : (told now : Option Told) (request : Request) (k : Cause) (answer : Answer) (counts later : PerName) (lent left : ℕ) → IsOr k answer.ended.cause → (IsRun k → ⊥) → IsPlainCause k → IsReason k (Some request)
+pub named_request : (told now : Option Told) (request : Request) (k : Cause) (answer : Answer) (counts later : PerName) (lent left : ℕ) → IsOr k answer.ended.cause → (IsRun k → ⊥) → IsPlainCause k counts later → IsReason k (Some request)
     → MayBe (Some request) k → Shown answer.ended.cause (Some request) counts later ⊥ → is_built request ≡ true → IfOk answer.text (λ l. l ≡ status_text None answer.ended.cause) → NothingRan answer.ended
     → (lent < 2 ^ 64 - 257 → left ≡ lent) → WhereTold told now (Answered (Some request) answer.ended counts later ⊥) → AnswersRequest (Some request) answer told now counts later lent left
 named_request told now request k answer counts later lent left is other plain reason kind shown built text none given answered = record {
   answered = answered;
   shown = shown;
-  text = or_text (wants_counts (Some request)) k answer.ended.cause (IsToldOutcome (Some request) told answer.ended.arrivals counts later) answer.text is other (plain_record k plain) text;
+  text = or_text (wants_counts (Some request)) k answer.ended.cause (IsToldOutcome (Some request) told answer.ended.arrivals counts later) answer.text is other (plain_record k counts later plain) text;
   words = built_words request answer.ended.cause counts later built;
   kinds = kinds is;
   reason = or_reason k answer.ended.cause (Some request) is reason;
@@ -65,7 +65,7 @@ same_or : (expected found cause : Cause) → cause ≡ found → IsOr expected f
 same_or expected found cause e (inl is) = inl (e ∙ is)
 same_or expected found cause e (inr is) = inr (e ∙ is)
 
-pub named_cause : (told now : Option Told) (request : Request) (k : Cause) (answer : Answer) (found : Cause) (counts later : PerName) (lent left : ℕ) → answer.ended.cause ≡ found → IsOr k found → (IsRun k → ⊥) → IsPlainCause k → IsReason k (Some request)
+pub named_cause : (told now : Option Told) (request : Request) (k : Cause) (answer : Answer) (found : Cause) (counts later : PerName) (lent left : ℕ) → answer.ended.cause ≡ found → IsOr k found → (IsRun k → ⊥) → IsPlainCause k counts later → IsReason k (Some request)
     → MayBe (Some request) k → (IsOr k answer.ended.cause → Shown answer.ended.cause (Some request) counts later ⊥) → is_built request ≡ true → IfOk answer.text (λ l. l ≡ status_text None found)
     → NothingRan answer.ended → (lent < 2 ^ 64 - 257 → left ≡ lent) → (IsOr k answer.ended.cause → WhereTold told now (Answered (Some request) answer.ended counts later ⊥))
     → AnswersRequest (Some request) answer told now counts later lent left

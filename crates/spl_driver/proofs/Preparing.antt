@@ -7,7 +7,7 @@ use Rattle.spl_value.specs.declared.item.FaultKind.TheVariants as K
 use Rattle.spl_value.specs.declared.item.Item.{Item}
 use Rattle.spl_value.specs.declared.item.Item.TheVariants as I
 use Rattle.feed_pour.specs.Counts.{PerName, Rose}
-use Rattle.check_laws.specs.Files.{source_file}
+use Rattle.language_model.specs.Files.{source_file}
 use Rattle.feed_pour.specs.Contents.{Told}
 use Rattle.language_model.specs.declared.checked.CheckedClauses.{CheckedClauses}
 use Rattle.language_model.specs.declared.checked.CheckedClauses.TheVariants as A
@@ -22,15 +22,16 @@ use Rattle.stream_model.specs.Operators.{Operator}
 use Rattle.stream_model.proofs.CheckedOperators.{operator_from}
 use Rattle.fault_laws.specs.RunFaults.{ReadFaultLaw}
 use Rattle.list_engine.specs.declared.run.Run.{Run}
-use Rattle.list_engine.specs.RunLaws.{FaultsName, OrderedLaw, SourcesName}
-use Rattle.list_engine.specs.Runs.{AreWhole, RowsFit, SinksGiven, rows_at}
-use Rattle.row_reader.specs.Reading.{NamesOperator, is_read_failed, is_read_fault}
+use Rattle.list_engine.specs.RunLaws.{FaultsName, SourcesName}
+use Rattle.stream_model.specs.RunLaws.{OrderedLaw}
+use Rattle.stream_model.specs.Runs.{AreWhole, RowsFit, SinksGiven, rows_at, IsFirstNotWhole}
+use Rattle.stream_model.specs.SourceFaults.{NamesOperator, is_read_failed, is_read_fault}
 use Rattle.source_rows.specs.Sources.{AreRows, SourcesOf, rows_told}
 use Rattle.source_rows.specs.declared.sources.Sources.TheVariants as S
 use Rattle.list_engine.specs.declared.run_order.Order.{Order}
 use Rattle.list_engine.specs.declared.run_order.Order.TheVariants as O
 use Rattle.list_engine.specs.declared.run_order.RunAnswer.TheVariants as L
-use Rattle.list_engine.specs.RunOrders.{AreInOrder, IsFirstNotWhole, StopsRun}
+use Rattle.list_engine.specs.RunOrders.{AreInOrder, StopsRun}
 use Rattle.spl_driver.specs.Outcome.{RequestOutcome, NotBuilt, BadArrivals, Runs, IsUnder, meant, run_outcome}
 use Rattle.spl_driver.specs.Outcome as U
 use Rattle.spl_driver.specs.Answer.{StoppedBy, cause_of}

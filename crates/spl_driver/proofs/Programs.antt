@@ -13,7 +13,7 @@ use Rattle.language_model.specs.Refusals.{refusal_by}
 use Rattle.language_model.specs.Accepted.{IsAccepted, no_tokens, too_deep, unexpected, no_graph, checks}
 use Rattle.language_model.specs.CheckedGraph.{CheckedGraph}
 use Rattle.language_model.specs.Checking.{checked}
-use Rattle.check_laws.specs.Files.{OwnFiles}
+use Rattle.language_model.specs.Files.{OwnFiles}
 use Rattle.check_laws.specs.OwnFilesLaw.{OwnFilesLaw}
 use Rattle.spl_driver.specs.AcceptedLaws.{TooLongLaw}
 use Rattle.spl_driver.specs.Compiled.{IsCompiled}

@@ -6,7 +6,7 @@ use Rattle.std.specs.Option.{option_map_or, option_to_list}
 use Rattle.std.specs.Str.{bytes_eq}
 use Rattle.spl_value.specs.declared.item.Fault.{Fault}
 use Rattle.spl_value.specs.Script.{Script}
-use Rattle.list_engine.specs.Runs.{AreWhole}
+use Rattle.stream_model.specs.Runs.{AreWhole, IsRecordOf, counts_of}
 use Rattle.feed_pour.specs.Counts.{PerName, Rose}
 use Rattle.feed_pour.specs.Contents.{Told}
 use Rattle.language_model.specs.declared.checked.CheckedClauses.{CheckedClauses}
@@ -22,7 +22,8 @@ use Rattle.stream_model.specs.Meaning.{Graph, Meaning, lists_at, meaning}
 use Rattle.stream_model.specs.Operators.{Operator, connections}
 use Rattle.arrival_format.specs.ArrivalTexts.{Spells, arrivals_text}
 use Rattle.arrival_format.specs.FormatLaws.{OneRecordLaw, WholeRecordLaw}
-use Rattle.check_laws.specs.Files.{is_named, source_file, source_files, sink_file}
+use Rattle.language_model.specs.Files.{source_file, source_files, sink_file}
+use Rattle.language_model.specs.Names.{is_named}
 use Rattle.command_line.specs.declared.request.Request.{Request}
 use Rattle.command_line.specs.declared.request.Request.TheVariants as R
 use Rattle.command_line.specs.declared.request.RunOptions.{RunOptions}
@@ -31,14 +32,14 @@ use Rattle.run_report.specs.declared.cause.Cause.{Cause}
 use Rattle.source_rows.specs.Sources.{rows_by, rows_told}
 use Rattle.spl_driver.specs.AcceptedLaws.{KeptLaw}
 use Rattle.spl_driver.specs.Outcome.{RequestOutcome, NoRequest, Unreadable, Refused, NotBuilt, OfPlan, OfSize, Report, Reports, BadArrivals, Runs, IsFound, IsOutcome, IsReplay, IsUnder, partial, whole, unread, misspelt, no_request, not_built, unreadable, refused, checks, plans, runs, replays, spelled, ArePartsIn, of_program, has_fault, has_record_fault, meant, run_outcome}
-use Rattle.spl_driver.specs.Answer.{Answered, CauseMeans, EachSink, HoldsText, IsRecordOf, IsRun, RecordHolds, RunsTo, cause_of, counts_of, CarriedOut}
+use Rattle.spl_driver.specs.Answer.{WroteNothing, Answered, CauseMeans, EachSink, HoldsText, IsRun, RecordHolds, RunsTo, cause_of, CarriedOut}
 use Rattle.spl_driver.specs.ReplayLaws.{AreReadAlike, EndAlike, ReplayLaw, SameFilesLaw}
 use Rattle.spl_driver.specs.RequestLaws.{OneOutcomeLaw}
 use Rattle.spl_driver.specs.declared.ended.Ended.{Ended}
 use Rattle.spl_driver.proofs.Preparing.{part_there}
 use Rattle.spl_value.proofs.Bools.{or_true}
 use Rattle.spl_value.proofs.Lists.{same_name}
-use Rattle.spl_driver.specs.steps.Steps.{is_ended_run}
+use Rattle.spl_driver.proofs.Standing.{follows_run}
 
 -- ---- what a run was found to be
 
@@ -314,7 +315,7 @@ module _ (kept : KeptLaw) (one_record : OneRecordLaw) (one : OneOutcomeLaw) (law
       let followed = replay_at later replayed.arrivals (Some (R.Replay program file)) (Runs y h n) program file y h n other refl refl in
       let checked : y ≡ x = cc in
       let graph : graph_of x ≡ g = same_graph x before ran.arrivals g m found.is in
-      let theirs = subst (λ (z : CheckedGraph). Spells z (later.script file).bytes replayed.arrivals) checked (is.followed (inl again) y h n other) in
+      let theirs = subst (λ (z : CheckedGraph). Spells z (later.script file).bytes replayed.arrivals) checked (follows_run replayed.cause (Spells y (later.script file).bytes replayed.arrivals) (WroteNothing y replayed later now) again (is.followed y h n other)) in
       let ours = spells_whole whole_law x m ran.arrivals (later.script file).bytes keeps (subst (λ (z : Graph). IsRecordOf z m ran.arrivals) (sym graph) is_record) text followed.spells.short in
       one_record x (later.script file).bytes replayed.arrivals ran.arrivals keeps theirs ours
 

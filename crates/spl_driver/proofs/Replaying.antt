@@ -5,6 +5,7 @@ use Rattle.std.proofs.lemmas.List.Elements.{Contains-append_cases}
 use Rattle.std.proofs.lemmas.Option.{slice_get_within}
 use Rattle.feed_pour.specs.Contents.{Told}
 use Rattle.language_model.specs.CheckedGraph.{CheckedGraph}
+use Rattle.language_model.specs.declared.refusal.Refusal.{Refusal}
 use Rattle.language_model.specs.Keeping.{Keeps}
 use Rattle.stream_model.specs.declared.record.Arrivals.{Arrivals}
 use Rattle.stream_model.specs.Arrivals.{entries_in, has_several}
@@ -12,11 +13,11 @@ use Rattle.stream_model.specs.CheckedMeaning.{graph_of}
 use Rattle.stream_model.specs.Meaning.{Graph, Entries, Meaning}
 use Rattle.stream_model.specs.Operators.{Operator, connections}
 use Rattle.stream_model.proofs.CheckedOperators.{operators_length}
-use Rattle.list_engine.specs.RunOrders.{IsFirstNotWhole}
-use Rattle.list_engine.specs.Runs.{AreWhole, is_whole_at}
+use Rattle.stream_model.specs.Runs.{IsFirstNotWhole, AreWhole, is_whole_at}
+use Rattle.arrival_format.specs.ArrivalTexts.{Spells}
 use Rattle.arrival_format.specs.declared.answer.ArrivalsAnswer.TheVariants as A
 use Rattle.arrival_format.specs.FormatLaws.{IsRead, OneRecordLaw, SomeReadLaw}
-use Rattle.spl_driver.specs.Outcome.{RequestOutcome, BadArrivals, Unreadable, Runs, IsReplay, IsUnder, unread, misspelt, spelled, partial, whole, has_record_fault, meant, run_outcome}
+use Rattle.spl_driver.specs.Outcome.{RequestOutcome, BadArrivals, Refused, Unreadable, Runs, IsReplay, IsUnder, unread, misspelt, spelled, partial, whole, has_record_fault, meant, run_outcome}
 use Rattle.spl_value.proofs.Lists.{contains_here, contains_later}
 
 -- ---- the first of some numbers
@@ -159,3 +160,28 @@ replay_graph t c file x g m is = of_replay (Runs x g m) is refl
     of_replay r (unread fault) e = absurd (let bad : Unreadable file ≡ Runs x g m = e in cc)
     of_replay r (misspelt quiet none) e = absurd (let bad : BadArrivals c None ≡ Runs x g m = e in cc)
     of_replay r (spelled a _ quiet has is) e = of_run a r is e
+
+-- ---- a replay of an accepted program isn't refused
+
+unrefused_under : (t : Told) (c : CheckedGraph) (given : Arrivals) (r : RequestOutcome) (refusal : Refusal)
+    → IsUnder t c given r → r ≡ Refused refusal → ⊥
+unrefused_under t c given r refusal (partial n h) e = cc
+unrefused_under t c given r refusal (whole all) e = cc
+
+pub unrefused_replay : (t : Told) (c : CheckedGraph) (file : List ℕ) (r : RequestOutcome) (refusal : Refusal)
+    → IsReplay t c file r → r ≡ Refused refusal → ⊥
+unrefused_replay t c file r refusal (unread fault) e = cc
+unrefused_replay t c file r refusal (misspelt quiet none) e = cc
+unrefused_replay t c file r refusal (spelled given _ quiet has under) e = unrefused_under t c given r refusal under e
+
+-- and where its file spells a record, it isn't ended by one that is misspelt
+spelled_under : (t : Told) (c x : CheckedGraph) (given : Arrivals) (r : RequestOutcome) → IsUnder t c given r
+    → r ≡ BadArrivals x None → ⊥
+spelled_under t c x given r (partial n h) e = cc
+spelled_under t c x given r (whole all) e = cc
+
+pub spelled_replay : (t : Told) (c x : CheckedGraph) (file : List ℕ) (given : Arrivals) (r : RequestOutcome)
+    → Spells c (t.script file).bytes given → IsReplay t c file r → r ≡ BadArrivals x None → ⊥
+spelled_replay t c x file given r has (unread fault) e = cc
+spelled_replay t c x file given r has (misspelt quiet none) e = none given has
+spelled_replay t c x file given r has (spelled other _ quiet spells under) e = spelled_under t c x other r under e

@@ -14,7 +14,8 @@ use Rattle.stream_model.specs.declared.record.Arrivals.{Arrivals}
 use Rattle.run_report.specs.declared.cause.Cause.{Cause}
 use Rattle.run_report.specs.declared.cause.Cause.TheVariants as C
 use Rattle.run_report.specs.Texts.{status_text}
-use Rattle.check_laws.specs.Files.{is_named, source_files}
+use Rattle.language_model.specs.Files.{source_files}
+use Rattle.language_model.specs.Names.{is_named}
 use Rattle.source_rows.specs.Counting.{OpeningFailed}
 use Rattle.source_rows.specs.Sources.{ReadsFail}
 use Rattle.list_engine.specs.declared.run_order.Order.{Order}
@@ -22,10 +23,10 @@ use Rattle.list_engine.specs.declared.run_order.Order.TheVariants as O
 use Rattle.arrival_format.specs.ArrivalTexts.{Spells}
 use Rattle.arrival_format.specs.FormatLaws.{OneRecordLaw}
 use Rattle.spl_driver.specs.Outcome.{RequestOutcome, BadArrivals, IsReplay, IsUnder, unread, misspelt, spelled, has_record_fault, fails_within}
-use Rattle.spl_driver.specs.Answer.{IsOr, IsRun, IsUnread, NoCountChanged, ReadingFailed, StoppedBy, DevicesShow, WholeReads}
+use Rattle.spl_driver.specs.Answer.{FollowsBy, IsSpelled, WroteNothing, IsOr, IsRun, IsUnread, NoCountChanged, ReadingFailed, StoppedBy, DevicesShow, WholeReads}
 use Rattle.spl_driver.specs.Shown.{NothingRan}
 use Rattle.spl_driver.specs.steps.Telling.{IsText}
-use Rattle.spl_driver.specs.steps.Steps.{CountsShow, FilesShow, FirstOpening, FirstReading, FollowsOrder, IsRunOf, IsSomeIn, IsSomeReplay, RanGraph, ReasonOf, RecordAt, RecordFails, ReplayComes, Replays, RunComes, replay_files, run_files, is_ended_run}
+use Rattle.spl_driver.specs.steps.Steps.{SpelledUnless, CountsShow, FilesShow, FirstOpening, FirstReading, FollowsOrder, IsRunOf, IsSomeIn, IsSomeReplay, RanGraph, ReasonOf, RecordAt, RecordFails, ReplayComes, Replays, RunComes, replay_files, run_files, is_ended_run}
 use Rattle.spl_driver.specs.declared.answer.Answer.{Answer}
 use Rattle.spl_driver.specs.declared.ended.Ended.{Ended}
 use Rattle.spl_driver.specs.declared.record.RecordRead.TheVariants as D
@@ -33,7 +34,8 @@ use Rattle.spl_driver.proofs.Carrying.{counts_wider, files_wider, none_named}
 use Rattle.spl_driver.proofs.Fetching.{failed_within, long_fault, no_fault, own_name, quiet_only, read_itself, same_told}
 use Rattle.spl_driver.proofs.Running.{begun_same, ends_at, or_text, same_files, open_not_run}
 use Rattle.spl_driver.proofs.Showing.{bad_ran, or_ran}
-use Rattle.spl_driver.proofs.Standing.{devices_map, means_map, same_counts, text_map}
+use Rattle.spl_driver.proofs.Replaying.{spelled_replay}
+use Rattle.spl_driver.proofs.Standing.{follows_unwritten, devices_map, means_map, same_counts, text_map}
 use Rattle.spl_value.proofs.Lists.{same_name, same_or_not}
 use Rattle.source_rows.proofs.Counting.{read_same}
 
@@ -116,9 +118,31 @@ record_counts cause k file c counts later is words others at device stopped = re
     by n e differs (inl (inr is)) = inr is
     by n e differs (inr same) = absurd (differs (ap (λ (m : List ℕ). (later m).reading) e ∙ same ∙ sym (ap (λ (m : List ℕ). (counts m).reading) e)))
 
-not_followed : (told : Option Told) (file : List ℕ) (c : CheckedGraph) (ended : Ended) → is_ended_run ended.cause ≡ false → IfSome told (λ t. is_ended_run ended.cause ≡ true → Spells c (t.script file).bytes ended.arrivals)
-not_followed None file c ended e = tt
-not_followed (Some t) file c ended e = λ run. absurd (let bad : false ≡ true = sym e ∙ run in cc)
+not_followed : (told now : Option Told) (file : List ℕ) (c : CheckedGraph) (ended : Ended) → WhereTold told now TellsSame
+    → is_ended_run ended.cause ≡ false
+    → WhereTold told now (λ t u. FollowsBy ended.cause (Spells c (t.script file).bytes ended.arrivals) (WroteNothing c ended t u))
+not_followed None now file c ended same e = tt
+not_followed (Some t) None file c ended same e = same
+not_followed (Some t) (Some u) file c ended same e =
+    follows_unwritten ended.cause (Spells c (t.script file).bytes ended.arrivals) (WroteNothing c ended t u) e (inl same.holds)
+
+-- a fact of the record's file, by the cause
+spelled_at : (told : Option Told) (cause k : Cause) (file : List ℕ) (c : CheckedGraph) → cause ≡ k
+    → ((t : Told) → SpelledUnless k file (IsReplay t c file)) → IfSome told (λ t. SpelledUnless cause file (IsReplay t c file))
+spelled_at None cause k file c is h = tt
+spelled_at (Some t) cause k file c is h = subst (λ (x : Cause). SpelledUnless x file (IsReplay t c file)) (sym is) (h t)
+
+spelled_all : (cause : Cause) (file : List ℕ) (Is : RequestOutcome → Type 0) → IsSpelled Is → SpelledUnless cause file Is
+spelled_all (C.OpenFailed name) file Is h = λ other. h
+spelled_all (C.ReadFailed name) file Is h = λ other. h
+spelled_all C.Done file Is h = tt
+spelled_all (C.Stopped fault) file Is h = tt
+spelled_all C.NotBuilt file Is h = tt
+spelled_all C.BadWords file Is h = tt
+spelled_all (C.Refused refusal) file Is h = tt
+spelled_all (C.BadArrivals op) file Is h = tt
+spelled_all (C.WriteFailed name) file Is h = tt
+spelled_all C.NoMemory file Is h = tt
 
 named_needs : (told : Option Told) (file : List ℕ) (cause : Cause) → IsUnread (file ∷ []) cause → IfSome told (λ t. has_record_fault (t.script file) ≡ true → IsUnread (file ∷ []) cause)
 named_needs None file cause h = tt
@@ -154,7 +178,8 @@ module _ (told now : Option Told) (file : List ℕ) (c : CheckedGraph) (answer :
     reason = subst (λ (k : Cause). ReasonOf k c) (sym is) tt;
     ran = or_ran C.NoMemory answer.ended.cause (λ x. x ≡ c) ⊥ answer.ended counts later (inl is) tt none;
     needed = named_needs told file answer.ended.cause (inl is);
-    followed = not_followed told file c answer.ended (ends_at answer.ended.cause C.NoMemory is refl);
+    followed = not_followed told now file c answer.ended same (ends_at answer.ended.cause C.NoMemory is refl);
+    in_order = spelled_at told answer.ended.cause C.NoMemory file c is (λ t. tt);
     lent = given;
   }
 
@@ -167,9 +192,10 @@ module _ (told now : Option Told) (file : List ℕ) (c : CheckedGraph) (answer :
     counted = record_counts answer.ended.cause (C.OpenFailed file) file c counts later (is ∙ e) (λ e. cc) counted.others (inr counted.reading) (inl (first_opened file c counts later counted)) tt;
     text = or_text false (C.OpenFailed file) answer.ended.cause Comes answer.text (inl (is ∙ e)) (open_not_run file) refl (tells_found answer.text answer.ended.cause found is text);
     reason = subst (λ (k : Cause). ReasonOf k c) (sym (is ∙ e)) tt;
-    ran = or_ran (C.OpenFailed file) answer.ended.cause (λ x. x ≡ c) ⊥ answer.ended counts later (inl (is ∙ e)) tt none;
+    ran = or_ran (C.OpenFailed file) answer.ended.cause (λ x. x ≡ c) ⊥ answer.ended counts later (inl (is ∙ e)) counted.rose none;
     needed = named_needs told file answer.ended.cause (inr (file, own_name file, inl (is ∙ e)));
-    followed = not_followed told file c answer.ended (ends_at answer.ended.cause (C.OpenFailed file) (is ∙ e) refl);
+    followed = not_followed told now file c answer.ended same (ends_at answer.ended.cause (C.OpenFailed file) (is ∙ e) refl);
+    in_order = spelled_at told answer.ended.cause (C.OpenFailed file) file c (is ∙ e) (λ t other. absurd (other refl));
     lent = given;
   }
 
@@ -184,7 +210,8 @@ module _ (told now : Option Told) (file : List ℕ) (c : CheckedGraph) (answer :
     reason = subst (λ (k : Cause). ReasonOf k c) (sym (is ∙ e)) tt;
     ran = or_ran (C.ReadFailed file) answer.ended.cause (λ x. x ≡ c) ⊥ answer.ended counts later (inl (is ∙ e)) tt none;
     needed = named_needs told file answer.ended.cause (inr (file, own_name file, inr (is ∙ e)));
-    followed = not_followed told file c answer.ended (ends_at answer.ended.cause (C.ReadFailed file) (is ∙ e) refl);
+    followed = not_followed told now file c answer.ended same (ends_at answer.ended.cause (C.ReadFailed file) (is ∙ e) refl);
+    in_order = spelled_at told answer.ended.cause (C.ReadFailed file) file c (is ∙ e) (λ t other. absurd (other refl));
     lent = given;
   }
 
@@ -218,7 +245,8 @@ misspelt_replay told now file c answer counts later before after given same read
   reason = subst (λ (k : Cause). ReasonOf k c) (sym is) tt;
   ran = bad_ran answer.ended.cause None (λ x. x ≡ c) ⊥ answer.ended counts later is none;
   needed = quiet_needs told file answer.ended.cause (misspelt_quiet told file c at);
-  followed = not_followed told file c answer.ended (ends_at answer.ended.cause (C.BadArrivals None) is refl);
+  followed = not_followed told now file c answer.ended same (ends_at answer.ended.cause (C.BadArrivals None) is refl);
+  in_order = spelled_at told answer.ended.cause (C.BadArrivals None) file c is (λ t. tt);
   lent = given;
 }
 
@@ -268,11 +296,37 @@ order_quiet None file c order at = tt
 order_quiet (Some t) file c O.InTurn at = absurd at
 order_quiet (Some t) file c (O.Recorded given) at = at.0
 
-replay_follows : (told : Option Told) (file : List ℕ) (c : CheckedGraph) (order : Order) (ended : Ended) → IfSome told (λ t. RecordAt (D.Order order) (t.script file) c) → FollowsOrder order ended
-    → IfSome told (λ t. is_ended_run ended.cause ≡ true → Spells c (t.script file).bytes ended.arrivals)
-replay_follows None file c order ended at h = tt
-replay_follows (Some t) file c O.InTurn ended at h = absurd at
-replay_follows (Some t) file c (O.Recorded given) ended at h = λ run. subst (Spells c (t.script file).bytes) (sym (h run)) at.1
+-- another record, which is this one
+follows_map : (k : Cause) (Given Spelled Unwritten : Type 0) → (Given → Spelled) → FollowsBy k Given Unwritten
+    → FollowsBy k Spelled Unwritten
+follows_map C.Done Given Spelled Unwritten to h = to h
+follows_map (C.Stopped fault) Given Spelled Unwritten to h = to h
+follows_map (C.WriteFailed name) Given Spelled Unwritten to h = to h
+follows_map C.NoMemory Given Spelled Unwritten to (inl h) = inl (to h)
+follows_map C.NoMemory Given Spelled Unwritten to (inr h) = inr h
+follows_map C.NotBuilt Given Spelled Unwritten to h = h
+follows_map C.BadWords Given Spelled Unwritten to h = h
+follows_map (C.Refused refusal) Given Spelled Unwritten to h = h
+follows_map (C.OpenFailed name) Given Spelled Unwritten to h = h
+follows_map (C.ReadFailed name) Given Spelled Unwritten to h = h
+follows_map (C.BadArrivals op) Given Spelled Unwritten to h = h
+
+replay_follows : (told now : Option Told) (file : List ℕ) (c : CheckedGraph) (order : Order) (ended : Ended)
+    → IfSome told (λ t. RecordAt (D.Order order) (t.script file) c) → WhereTold told now (FollowsOrder order c ended)
+    → WhereTold told now (λ t u. FollowsBy ended.cause (Spells c (t.script file).bytes ended.arrivals) (WroteNothing c ended t u))
+replay_follows None now file c order ended at h = tt
+replay_follows (Some t) None file c order ended at h = absurd h
+replay_follows (Some t) (Some u) file c O.InTurn ended at h = absurd at
+replay_follows (Some t) (Some u) file c (O.Recorded given) ended at h =
+    follows_map ended.cause (ended.arrivals ≡ given) (Spells c (t.script file).bytes ended.arrivals) (WroteNothing c ended t u)
+    (λ same. subst (Spells c (t.script file).bytes) (sym same) at.1) h
+
+replay_order : (told : Option Told) (file : List ℕ) (c : CheckedGraph) (order : Order) (cause : Cause)
+    → IfSome told (λ t. RecordAt (D.Order order) (t.script file) c) → IfSome told (λ t. SpelledUnless cause file (IsReplay t c file))
+replay_order None file c order cause at = tt
+replay_order (Some t) file c O.InTurn cause at = absurd at
+replay_order (Some t) file c (O.Recorded given) cause at =
+    spelled_all cause file (IsReplay t c file) (λ x is. spelled_replay t c x file given (BadArrivals x None) at.1 is refl)
 
 least : (file n : List ℕ) → 0 ≤ (if bytes_eq file n then 2 ^ 32 else 1048576)
 least file n = omega arith
@@ -284,7 +338,7 @@ record RunKnown (c : CheckedGraph) (order : Order) (answer : Answer) (told now :
   pub text : IfOk answer.text (IsText false answer.ended.cause (RunComes c order answer.ended.arrivals told counts later))
   pub reason : ReasonOf answer.ended.cause c
   pub ran : RanGraph answer.ended.cause c answer.ended counts later
-  pub followed : FollowsOrder order answer.ended
+  pub followed : WhereTold told now (FollowsOrder order c answer.ended)
 
 replay_known : OneRecordLaw → (told now : Option Told) (file : List ℕ) (c : CheckedGraph) (order : Order) (answer : Answer) (counts later : PerName) (before after : ℕ) → Keeps c → IfSome told (λ t. RecordAt (D.Order order) (t.script file) c)
     → (before < 2 ^ 64 - 257 → after ≡ before) → RunKnown c order answer told now counts later → Replays file c answer told now counts later before after
@@ -296,7 +350,8 @@ replay_known law told now file c order answer counts later before after keeps at
   reason = h.reason;
   ran = h.ran;
   needed = quiet_needs told file answer.ended.cause (order_quiet told file c order at);
-  followed = replay_follows told file c order answer.ended at h.followed;
+  followed = replay_follows told now file c order answer.ended at h.followed;
+  in_order = replay_order told file c order answer.ended.cause at;
   lent = given;
 }
 
@@ -307,7 +362,7 @@ text_untold mid c order cause arrivals (Ok text) counts later h = text_map false
 
 known_at : (told mid now : Option Told) (c : CheckedGraph) (order : Order) (answer : Answer) (counts later : PerName) → WhereTold told mid TellsSame → RunKnown c order answer mid now counts later → RunKnown c order answer told now counts later
 known_at None mid now c order answer counts later same h =
-    record { files = tt; counted = h.counted; text = text_untold mid c order answer.ended.cause answer.ended.arrivals answer.text counts later h.text; reason = h.reason; ran = h.ran; followed = h.followed }
+    record { files = tt; counted = h.counted; text = text_untold mid c order answer.ended.cause answer.ended.arrivals answer.text counts later h.text; reason = h.reason; ran = h.ran; followed = tt }
 known_at (Some t) None now c order answer counts later same h = absurd same
 known_at (Some t) (Some s) now c order answer counts later same h = subst (λ (x : Told). RunKnown c order answer (Some x) now counts later) (same_told t s same) h
 
@@ -315,7 +370,7 @@ pub ran_replay : OneRecordLaw → (told mid now : Option Told) (file : List ℕ)
     → WhereTold told mid TellsSame → NoCountChanged counts between → IfSome told (λ t. RecordAt (D.Order order) (t.script file) c) → (before < 2 ^ 64 - 257 → after ≡ before)
     → WhereTold mid now (λ t u. FilesShow (IsRunOf c order answer.ended.arrivals t) (run_files None c) answer.ended between later t u) → CountsShow answer.ended.cause c.parts (run_files None c) between later
     → IfOk answer.text (IsText false answer.ended.cause (RunComes c order answer.ended.arrivals mid between later)) → ReasonOf answer.ended.cause c → RanGraph answer.ended.cause c answer.ended between later
-    → FollowsOrder order answer.ended → Replays file c answer told now counts later before after
+    → WhereTold mid now (FollowsOrder order c answer.ended) → Replays file c answer told now counts later before after
 ran_replay law told mid now file c order answer counts between later before after keeps same quiet at given files counted text reason ran followed =
     replay_known law told now file c order answer counts later before after keeps at given
     (subst (λ (k : PerName). RunKnown c order answer told now k later) (same_counts counts between quiet)

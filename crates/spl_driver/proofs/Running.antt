@@ -25,7 +25,8 @@ use Rattle.stream_model.specs.Meaning.{Graph, Meaning, meaning}
 use Rattle.run_report.specs.declared.cause.Cause.{Cause}
 use Rattle.run_report.specs.declared.cause.Cause.TheVariants as C
 use Rattle.run_report.specs.Texts.{status_text}
-use Rattle.check_laws.specs.Files.{source_file, source_files, sink_files, is_named, OwnFiles}
+use Rattle.language_model.specs.Files.{source_file, source_files, sink_files, OwnFiles}
+use Rattle.language_model.specs.Names.{is_named}
 use Rattle.file_adapters.specs.declared.sinks.Sink.{Sink}
 use Rattle.file_adapters.specs.declared.sinks.Sunk.{Sunk}
 use Rattle.file_adapters.specs.declared.sinks.Sunk.TheVariants as S
@@ -36,19 +37,20 @@ use Rattle.list_engine.specs.declared.run.Run.{Run}
 use Rattle.list_engine.specs.RunLaws.{SinkLaw}
 use Rattle.source_rows.specs.Counting.{OnlyOf, OnlyReads, OpeningFailed}
 use Rattle.source_rows.specs.Sources.{ReadsFail, rows_told}
-use Rattle.list_engine.specs.Runs.{rows_at}
+use Rattle.stream_model.specs.Runs.{rows_at, IsRecordOf, counts_of}
 use Rattle.spl_driver.specs.Files.{FilesOf}
 use Rattle.spl_driver.specs.Outcome.{RequestOutcome, NoRequest, Unreadable, Refused, NotBuilt, Reports, BadArrivals, Runs, meant, run_outcome}
-use Rattle.spl_driver.specs.Answer.{EachSink, HoldsText, HoldsPrefix, HoldsUnlessFailed, SameFiles, CarriedOut, Begun, CauseMeans, CreatingFailed, DevicesMean, DevicesShow, IsRecordOf, RecordHolds, of_sink, of_record, of_telling, WritingFailed, WroteOthers, StoppedBy, WholeReads, cause_of, counts_of, IsOr, IsRun}
+use Rattle.spl_driver.specs.Answer.{NothingTaken, uncounted, EachSink, HoldsText, HoldsPrefix, HoldsUnlessFailed, SameFiles, CarriedOut, Begun, CauseMeans, CreatingFailed, DevicesMean, DevicesShow, RecordHolds, of_sink, of_record, of_telling, WritingFailed, WroteOthers, StoppedBy, WholeReads, cause_of, IsOr, IsRun}
 use Rattle.arrival_format.specs.ArrivalTexts.{arrivals_text}
 use Rattle.spl_driver.specs.Texts.{run_text}
 use Rattle.spl_driver.specs.steps.Telling.{IsText}
-use Rattle.spl_driver.specs.Shown.{NothingRan, Ran, RanTo}
-use Rattle.spl_driver.specs.steps.Steps.{RanFor, RanGraph, ReasonOf, ran, IsRunAs, RunComesAs, CountsShow, FilesShow, EndsAs, EndsBehind, EndsRun, RecordOf, RecordedBy, TellsBehind, TellsRun, IsNamedBy, created_by, last_of, run_files, sinks_of, sinks_from, counts_from, is_bad_arrivals, is_ended_run}
+use Rattle.spl_driver.specs.Shown.{Ran, RanTo, RanWith}
+use Rattle.spl_driver.specs.steps.Steps.{IsUntaken, RanFor, RanGraph, ReasonOf, ran, IsRunAs, RunComesAs, CountsShow, FilesShow, EndsAs, EndsBehind, EndsRun, RecordOf, RecordedBy, TellsBehind, TellsRun, IsNamedBy, created_by, last_of, run_files, sinks_of, sinks_from, counts_from, is_bad_arrivals, is_ended_run}
 use Rattle.spl_driver.proofs.Causes.{SourceUnread}
 use Rattle.spl_driver.specs.declared.answer.Answer.{Answer}
 use Rattle.spl_driver.specs.declared.ended.Ended.{Ended}
-use Rattle.spl_driver.proofs.Showing.{or_ran}
+use Rattle.spl_driver.proofs.Showing.{untaken_so_far, whole_so_far}
+use Rattle.spl_driver.proofs.SoFar.{untaken_record}
 use Rattle.spl_driver.proofs.SinkLemmas.{empty_prefixes, texts, prefixes, wrote_others, same_prefixes, counts_are, files_from, distinct, names_are, own_file}
 use Rattle.spl_driver.proofs.Standing.{BegunSame, record_kept}
 use Rattle.spl_value.proofs.Bools.{or_first}
@@ -292,7 +294,7 @@ before_last (Some file) c place k name d at less =
 
 -- a file that couldn't be created, after sources that were read
 creating_failed : (written : Option (List ℕ)) (c : CheckedGraph) (place : ℕ) (old mid new : PerName) (name : List ℕ) → OnlyReads (source_files c.parts) old mid
-    → ((n : List ℕ) → (new n).opening ≡ (mid n).opening) → Y.CreatingFailed place (created_by written c) name mid new → CreatingFailed (run_files written c) name old new
+    → ((n : List ℕ) → (new n).opening ≡ (mid n).opening) → Y.FileNotCreated place (created_by written c) name mid new → CreatingFailed (run_files written c) name old new
 creating_failed written c place old mid new name reads opening h = record {
   before = take place (created_by written c);
   order = (drop (suc place) (created_by written c), names_at (created_by written c) place name h.at);
@@ -307,7 +309,7 @@ creating_failed written c place old mid new name reads opening h = record {
 
 -- and one that couldn't be written or finished
 writing_failed : (written : Option (List ℕ)) (c : CheckedGraph) (place : ℕ) (old mid new : PerName) (name : List ℕ) (names : List (List ℕ)) → OwnFiles names c.parts → OnlyReads (source_files c.parts) old mid
-    → FilesCounted (S.NotWritten place) (created_by written c) mid new → Y.WritingFailed place (created_by written c) name mid new → WritingFailed (run_files written c) name old new
+    → FilesCounted (S.NotWritten place) (created_by written c) mid new → Y.FileNotWritten place (created_by written c) name mid new → WritingFailed (run_files written c) name old new
 writing_failed written c place old mid new name names own reads counted h = record {
   before = take place (created_by written c);
   order = (drop (suc place) (created_by written c), names_at (created_by written c) place name h.at);
@@ -454,7 +456,7 @@ held_from (S.Done ns) written c streams counts between later t u names own reads
 held_from (S.NotCreated place) written c streams counts between later t u names own reads h = h
 held_from (S.NotWritten place) written c streams counts between later t u names own reads h = λ k d small.
     let s = slice_index_or (sinks_of c) k d in
-    subst (λ (x : FaultCounts). Y.HoldsUnlessFailed (Y.sink_text streams s) x (later s.file) (u.holds s.file)) (reads.others s.file (sink_free c names own k d small)) (h k d small)
+    subst (λ (x : FaultCounts). Y.HoldsUnlessUnwritten (Y.file_text streams s) x (later s.file) (u.holds s.file)) (reads.others s.file (sink_free c names own k d small)) (h k d small)
 held_from S.Memory written c streams counts between later t u names own reads h = h
 
 pub sunken_of : (law : SinkLaw) (r : Sunk) (written : Option (List ℕ)) (c : CheckedGraph) (run : Run) (ended : Ended) (counts between later : PerName) (t u : Told) (names : List (List ℕ)) → Keeps c → OwnFiles names c.parts → RanFor c run (Some t) counts between
@@ -724,24 +726,53 @@ module _ (law : SinkLaw) (told : Option Told) (c : CheckedGraph) (run : Run) (en
   done_ran (Some f) is recorded counted = (c, p.graph, came_meaning, refl, ran_on told c run ended.arrivals counts between later p recorded same, sym p.fault ∙ sym is, counted)
 
   at_memory : ended.arrivals ≡ run.arrivals → ended.cause ≡ C.NoMemory → RanGraph ended.cause c ended counts later
-  at_memory recorded is = subst (λ (k : Cause). RanGraph k c ended counts later) (sym is) (inr (some_ran recorded))
+  at_memory recorded is = subst (λ (k : Cause). RanGraph k c ended counts later) (sym is)
+      (inr (whole_so_far (λ x. x ≡ c) ended counts later (some_ran recorded)))
 
-  ran_behind : (r : Sunk) (names : List (List ℕ)) → FileAt r names → EndsBehind r run.fault c names ended → SinksCount r (sinks_of c) run.sinks → RecordedBy r ended run.arrivals → RanGraph ended.cause c ended counts later
-  ran_behind (S.Done ns) names at (inl (is, counted)) count recorded =
+  -- a file couldn't be created, so nothing was taken
+  untaken_ran : IsUntaken run.arrivals ended.arrivals → RanWith (λ g m arrivals. NothingTaken g arrivals) (λ x. x ≡ c) ended counts later
+  untaken_ran none = (
+    c,
+    p.graph,
+    meaning p.graph (rows_at p.rows) (entries_in ended.arrivals.lists),
+    refl,
+    record {
+      graph = p.is;
+      rows = p.rows;
+      fit = p.fit;
+      names = p.names;
+      read = λ n op file strict at source any. subst (λ (k : ℕ). Rose (counts file).reading k) (sym (same file)) (p.read n op file strict at source any);
+      is = refl;
+      recorded = untaken_record p.graph run.arrivals ended.arrivals p.recorded.lists none;
+    },
+  )
+
+  ran_behind : (r : Sunk) (names : List (List ℕ)) → OnlyReads (source_files c.parts) counts between → FilesCounted r names between later → EndsBehind r run.fault c names ended → SinksCount r (sinks_of c) run.sinks → RecordedBy r ended run.arrivals
+      → RanGraph ended.cause c ended counts later
+  ran_behind (S.Done ns) names reads at (inl (is, counted)) count recorded =
       subst (λ (k : Cause). RanGraph k c ended counts later) (sym is) (done_ran run.fault refl recorded (counted_as law ns told c run ended counts between p keeps count counted))
-  ran_behind (S.Done ns) names at (inr is) count recorded = at_memory recorded is
-  ran_behind (S.NotCreated place) names (name, at) ends count none = or_ran (C.OpenFailed name) ended.cause (λ x. x ≡ c) ⊥ ended counts later (ends name at) tt none
-  ran_behind (S.NotWritten place) names (name, at) ends count recorded = by (ends name at)
+  ran_behind (S.Done ns) names reads at (inr is) count recorded = at_memory recorded is
+  ran_behind (S.NotCreated place) names reads at ends count recorded = by (ends at.cause.0 at.cause.1.at)
     where
-      by : IsOr (C.WriteFailed name) ended.cause → RanGraph ended.cause c ended counts later
+      by : IsOr (C.OpenFailed at.cause.0) ended.cause → RanGraph ended.cause c ended counts later
+      by (inl is) = subst (λ (k : Cause). RanGraph k c ended counts later) (sym is) (inr (record {
+        rose = subst (λ (k : ℕ). Rose k (later at.cause.0).creating) (reads.reads at.cause.0).creating at.cause.1.rose;
+        none = recorded.1;
+        untaken = untaken_ran recorded.0;
+      }))
+      by (inr is) = subst (λ (k : Cause). RanGraph k c ended counts later) (sym is)
+          (inr (untaken_so_far (λ x. x ≡ c) ended counts later (untaken_ran recorded.0)))
+  ran_behind (S.NotWritten place) names reads at ends count recorded = by (ends at.cause.0 at.cause.1.at)
+    where
+      by : IsOr (C.WriteFailed at.cause.0) ended.cause → RanGraph ended.cause c ended counts later
       by (inl is) = subst (λ (k : Cause). RanGraph k c ended counts later) (sym is) (inr (some_ran recorded))
       by (inr is) = at_memory recorded is
-  ran_behind S.Memory names at is count recorded = at_memory recorded is
+  ran_behind S.Memory names reads at is count recorded = at_memory recorded is
 
-pub sunk_ran : SinkLaw → (told : Option Told) (r : Sunk) (c : CheckedGraph) (sinks : List Sink) (names : List (List ℕ)) (run : Run) (ended : Ended) (counts between later : PerName) → Keeps c → sinks ≡ sinks_of c → RanFor c run told counts between
+pub sunk_ran : SinkLaw → (told : Option Told) (r : Sunk) (c : CheckedGraph) (sinks : List Sink) (names : List (List ℕ)) (run : Run) (ended : Ended) (counts between later : PerName) → Keeps c → sinks ≡ sinks_of c → RanFor c run told counts between → OnlyReads (source_files c.parts) counts between
     → SinksCount r sinks run.sinks → FilesCounted r names between later → EndsBehind r run.fault c names ended → RecordedBy r ended run.arrivals → RanGraph ended.cause c ended counts later
-sunk_ran law told r c sinks names run ended counts between later keeps e p count counted ends recorded =
-    ran_behind law told c run ended counts between later keeps p counted.reading r names (file_at r names between later counted) ends (subst (λ (ss : List Sink). SinksCount r ss run.sinks) e count) recorded
+sunk_ran law told r c sinks names run ended counts between later keeps e p reads count counted ends recorded =
+    ran_behind law told c run ended counts between later keeps p counted.reading r names reads counted ends (subst (λ (ss : List Sink). SinksCount r ss run.sinks) e count) recorded
 
 -- ---- the answer of a run, by what became of the files that it created
 
@@ -755,11 +786,11 @@ tells_same text found cause is h = subst (λ (k : Cause). IfOk text (λ l. l ≡
 
 pub ends_not_created : (sunk : Sunk) (place : ℕ) (counted : Bool) (c : CheckedGraph) (names : List (List ℕ)) (fault : Option Fault) (arrivals : Arrivals) (answer : Answer) (file : List ℕ) (found : Cause) → sunk ≡ S.NotCreated place
     → ((name : List ℕ) → slice_get names place ≡ Some name → file ≡ name) → IsOr (C.OpenFailed file) found → answer.ended.cause ≡ found → IfOk answer.text (λ l. l ≡ status_text None found)
-    → NothingRan answer.ended → EndsRun sunk counted c names fault arrivals answer
-ends_not_created sunk place counted c names fault arrivals answer file found e named is same text recorded = subst (λ (r : Sunk). EndsRun r counted c names fault arrivals answer) (sym e) (record {
+    → IsUntaken arrivals answer.ended.arrivals → answer.ended.counts ≡ uncounted → EndsRun sunk counted c names fault arrivals answer
+ends_not_created sunk place counted c names fault arrivals answer file found e named is same text untaken none = subst (λ (r : Sunk). EndsRun r counted c names fault arrivals answer) (sym e) (record {
   ends = same_file (λ n. C.OpenFailed n) names place file answer.ended.cause found named is same;
   text = tells_same answer.text found answer.ended.cause same text;
-  recorded = recorded;
+  recorded = (untaken, none);
 })
 
 pub ends_not_written : (sunk : Sunk) (place : ℕ) (counted : Bool) (c : CheckedGraph) (names : List (List ℕ)) (fault : Option Fault) (arrivals : Arrivals) (answer : Answer) (file : List ℕ) (found : Cause) → sunk ≡ S.NotWritten place
@@ -846,7 +877,7 @@ module _ (sinks : List Sink) (streams : List (List Item)) (text : TextFile) (c :
   rose_from : (name : List ℕ) → Rose (between name).writing (now name).writing → Rose (counts name).writing (now name).writing
   rose_from name rose = subst (λ (k : ℕ). Rose k (now name).writing) (reads.reads name).writing rose
 
-  unwritten_record : (place : ℕ) (name : List ℕ) → Y.WritingFailed place (names_of sinks (Some text)) name between now → TextHolds (S.NotWritten place) sinks streams text t u → Holds (C.WriteFailed name)
+  unwritten_record : (place : ℕ) (name : List ℕ) → Y.FileNotWritten place (names_of sinks (Some text)) name between now → TextHolds (S.NotWritten place) sinks streams text t u → Holds (C.WriteFailed name)
   unwritten_record place name failed (inl (before, empty)) = by (created_at sinks text place name failed.at)
     where
       by : ((place < length sinks) × (slice_get (sink_names sinks) place ≡ Some name)) ⊎ ((place ≡ length sinks) × (name ≡ text.file)) → Holds (C.WriteFailed name)

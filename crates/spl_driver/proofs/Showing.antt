@@ -1,25 +1,29 @@
 -- What an answer shows at every shelf: of the counts, of the program and of its run.
+use Rattle.stream_model.specs.Runs.{IsRecordOf}
 use Rattle.std.proofs.Common.{◌≡◌, ◌≢◌, ◌∙◌, ℕ, true, false, List, [], refl, sym, ap, subst, inl, inr, ◌⊎◌, Option, Some, None}
 use Rattle.spl_value.specs.declared.item.Fault.{Fault}
-use Rattle.feed_pour.specs.Counts.{FaultCounts, PerName}
+use Rattle.feed_pour.specs.Counts.{FaultCounts, PerName, Rose}
 use Rattle.language_model.specs.declared.checked.CheckedClauses.{CheckedClauses}
 use Rattle.language_model.specs.CheckedGraph.{CheckedGraph}
+use Rattle.stream_model.specs.declared.record.Arrivals.{Arrivals}
+use Rattle.stream_model.specs.Meaning.{Graph, Meaning}
 use Rattle.run_report.specs.declared.cause.Cause.{Cause}
 use Rattle.run_report.specs.declared.cause.Cause.TheVariants as C
 use Rattle.command_line.specs.declared.request.Request.{Request}
 use Rattle.command_line.specs.declared.request.Request.TheVariants as R
 use Rattle.command_line.specs.declared.request.RunOptions.{RunOptions}
 use Rattle.source_rows.specs.Counting.{OnlyReads}
-use Rattle.spl_driver.specs.Answer.{DevicesShow, IsRun, NoCountChanged, cause_of, is_report, IsOr}
+use Rattle.spl_driver.specs.Answer.{NothingTaken, DevicesShow, IsRun, NoCountChanged, cause_of, is_report, IsOr}
 use Rattle.spl_driver.specs.Built.{is_built}
 use Rattle.spl_driver.specs.Files.{FilesOf, files_of, program_of, row_files}
 use Rattle.spl_driver.specs.steps.Telling.{ToldAs, OUT}
 use Rattle.spl_driver.specs.Outcome.{IsProgramOf}
-use Rattle.spl_driver.specs.Shown.{ArePartsOf, IsReason, IsRunProgram, TextShown, NothingRan, Ran, RanShown, RunShown, Shown, ShownBy}
+use Rattle.spl_driver.specs.Shown.{IsRecordSoFar, RanWith, ArePartsOf, IsReason, IsRunProgram, TextShown, NothingRan, Ran, RanShown, RunShown, Shown, ShownBy}
 use Rattle.spl_driver.specs.steps.Steps.{CountsShow, FirstOpening, FirstReading, IsRunGraph, RanAccepted, RanGraph, ReasonOf, is_bad_arrivals}
 use Rattle.spl_driver.proofs.Causes.{IsReport}
 use Rattle.spl_driver.specs.declared.ended.Ended.{Ended}
 use Rattle.spl_driver.proofs.Fetching.{quiet_only}
+use Rattle.spl_driver.proofs.SoFar.{so_far_of, so_far_untaken}
 use Rattle.spl_driver.proofs.Standing.{IsQuiet, IsUnrun, opening_of, outside, quiet_stopped, reading_of, same_counts}
 use Rattle.spl_value.proofs.Lists.{same_or_not}
 
@@ -188,13 +192,49 @@ reason_said c r request Text (inr (inr (e, run, text))) h = subst (λ (k : Cause
 
 -- ---- what ran
 
+-- a weaker fact of its record
+ran_wider : (Known Wider : Graph → Meaning → Arrivals → Type 0) (Program : CheckedGraph → Type 0) (ended : Ended) (counts now : PerName)
+    → ((g : Graph) (m : Meaning) → Known g m ended.arrivals → Wider g m ended.arrivals)
+    → RanWith Known Program ended counts now → RanWith Wider Program ended counts now
+ran_wider Known Wider Program ended counts now wider (c, g, m, p, ran) = (
+  c,
+  g,
+  m,
+  p,
+  record {
+    graph = ran.graph;
+    rows = ran.rows;
+    fit = ran.fit;
+    names = ran.names;
+    read = ran.read;
+    is = ran.is;
+    recorded = wider g m ran.recorded;
+  },
+)
+
+-- a record that is whole is one so far
+pub whole_so_far : (Program : CheckedGraph → Type 0) (ended : Ended) (counts now : PerName) → Ran Program ended counts now
+    → RanWith IsRecordSoFar Program ended counts now
+whole_so_far Program ended counts now =
+    ran_wider IsRecordOf IsRecordSoFar Program ended counts now (λ g m h. so_far_of g m ended.arrivals h)
+
+-- and so is one in which nothing was taken
+pub untaken_so_far : (Program : CheckedGraph → Type 0) (ended : Ended) (counts now : PerName)
+    → RanWith (λ g m arrivals. NothingTaken g arrivals) Program ended counts now
+    → RanWith IsRecordSoFar Program ended counts now
+untaken_so_far Program ended counts now =
+    ran_wider (λ g m arrivals. NothingTaken g arrivals) IsRecordSoFar Program ended counts now
+    (λ g m h. so_far_untaken g m ended.arrivals h)
+
 pub run_map : (cause : Cause) (P Q : CheckedGraph → Type 0) (A B : Type 0) (ended : Ended) (counts now : PerName) → ((c : CheckedGraph) → P c → Q c) → (A → B) → RunShown cause P A ended counts now → RunShown cause Q B ended counts now
 run_map C.Done P Q A B ended counts now to check (inl (a, none)) = inl (check a, none)
 run_map C.Done P Q A B ended counts now to check (inr (c, g, m, p, ran, fault, counted)) = inr (c, g, m, to c p, ran, fault, counted)
 run_map (C.Stopped f) P Q A B ended counts now to check (c, g, m, p, ran, fault, counted) = (c, g, m, to c p, ran, fault, counted)
 run_map (C.WriteFailed name) P Q A B ended counts now to check (inl (a, none)) = inl (check a, none)
 run_map (C.WriteFailed name) P Q A B ended counts now to check (inr (c, g, m, p, ran)) = inr (c, g, m, to c p, ran)
-run_map (C.OpenFailed name) P Q A B ended counts now to check none = none
+run_map (C.OpenFailed name) P Q A B ended counts now to check (inl none) = inl none
+run_map (C.OpenFailed name) P Q A B ended counts now to check (inr h) =
+    inr (record { rose = h.rose; none = h.none; untaken = (h.untaken.0, h.untaken.1, h.untaken.2, to h.untaken.0 h.untaken.3, h.untaken.4) })
 run_map C.NoMemory P Q A B ended counts now to check (inl none) = inl none
 run_map C.NoMemory P Q A B ended counts now to check (inr (c, g, m, p, ran)) = inr (c, g, m, to c p, ran)
 run_map C.BadWords P Q A B ended counts now to check none = none
@@ -203,20 +243,21 @@ run_map C.NotBuilt P Q A B ended counts now to check none = none
 run_map (C.ReadFailed name) P Q A B ended counts now to check none = none
 run_map (C.BadArrivals op) P Q A B ended counts now to check none = none
 
--- a request of which nothing ran
-abbrev pub IsPlainCause : Cause → Type 0
-IsPlainCause C.Done = ⊥
-IsPlainCause (C.Stopped fault) = ⊥
-IsPlainCause (C.WriteFailed name) = ⊥
-IsPlainCause C.NotBuilt = Unit {0}
-IsPlainCause C.BadWords = Unit {0}
-IsPlainCause (C.Refused refusal) = Unit {0}
-IsPlainCause C.NoMemory = Unit {0}
-IsPlainCause (C.OpenFailed name) = Unit {0}
-IsPlainCause (C.ReadFailed name) = Unit {0}
-IsPlainCause (C.BadArrivals op) = ⊥
+-- a request of which nothing ran; where a file couldn't be opened, its count of opening rose
+abbrev pub IsPlainCause : Cause → PerName → PerName → Type 0
+IsPlainCause C.Done counts now = ⊥
+IsPlainCause (C.Stopped fault) counts now = ⊥
+IsPlainCause (C.WriteFailed name) counts now = ⊥
+IsPlainCause C.NotBuilt counts now = Unit {0}
+IsPlainCause C.BadWords counts now = Unit {0}
+IsPlainCause (C.Refused refusal) counts now = Unit {0}
+IsPlainCause C.NoMemory counts now = Unit {0}
+IsPlainCause (C.OpenFailed name) counts now = Rose (counts name).opening (now name).opening
+IsPlainCause (C.ReadFailed name) counts now = Unit {0}
+IsPlainCause (C.BadArrivals op) counts now = ⊥
 
-pub plain_ran : (cause : Cause) (Program : CheckedGraph → Type 0) (Check : Type 0) (ended : Ended) (counts now : PerName) → IsPlainCause cause → NothingRan ended → RunShown cause Program Check ended counts now
+pub plain_ran : (cause : Cause) (Program : CheckedGraph → Type 0) (Check : Type 0) (ended : Ended) (counts now : PerName)
+    → IsPlainCause cause counts now → NothingRan ended → RunShown cause Program Check ended counts now
 plain_ran C.Done Program Check ended counts now is none = absurd is
 plain_ran (C.Stopped fault) Program Check ended counts now is none = absurd is
 plain_ran (C.WriteFailed name) Program Check ended counts now is none = absurd is
@@ -224,33 +265,33 @@ plain_ran C.NotBuilt Program Check ended counts now is none = none
 plain_ran C.BadWords Program Check ended counts now is none = none
 plain_ran (C.Refused refusal) Program Check ended counts now is none = none
 plain_ran C.NoMemory Program Check ended counts now is none = inl none.lists
-plain_ran (C.OpenFailed name) Program Check ended counts now is none = none
+plain_ran (C.OpenFailed name) Program Check ended counts now is none = inl (none, is)
 plain_ran (C.ReadFailed name) Program Check ended counts now is none = none
 plain_ran (C.BadArrivals op) Program Check ended counts now is none = absurd is
 
 -- none of these is a bad record
-pub plain_record : (cause : Cause) → IsPlainCause cause → is_bad_arrivals cause ≡ false
-plain_record C.Done is = absurd is
-plain_record (C.Stopped fault) is = absurd is
-plain_record (C.WriteFailed name) is = absurd is
-plain_record (C.BadArrivals op) is = absurd is
-plain_record C.NotBuilt is = refl
-plain_record C.BadWords is = refl
-plain_record (C.Refused refusal) is = refl
-plain_record C.NoMemory is = refl
-plain_record (C.OpenFailed name) is = refl
-plain_record (C.ReadFailed name) is = refl
+pub plain_record : (cause : Cause) (counts now : PerName) → IsPlainCause cause counts now → is_bad_arrivals cause ≡ false
+plain_record C.Done counts now is = absurd is
+plain_record (C.Stopped fault) counts now is = absurd is
+plain_record (C.WriteFailed name) counts now is = absurd is
+plain_record (C.BadArrivals op) counts now is = absurd is
+plain_record C.NotBuilt counts now is = refl
+plain_record C.BadWords counts now is = refl
+plain_record (C.Refused refusal) counts now is = refl
+plain_record C.NoMemory counts now is = refl
+plain_record (C.OpenFailed name) counts now is = refl
+plain_record (C.ReadFailed name) counts now is = refl
 
 -- nothing ran under one either
 pub bad_ran : (cause : Cause) (op : Option ℕ) (Program : CheckedGraph → Type 0) (Check : Type 0) (ended : Ended) (counts now : PerName) → cause ≡ C.BadArrivals op → NothingRan ended → RunShown cause Program Check ended counts now
 bad_ran cause op Program Check ended counts now is none = subst (λ (k : Cause). RunShown k Program Check ended counts now) (sym is) none
 
 -- of an answer with such a cause
-pub at_plain : (cause k : Cause) (Program : CheckedGraph → Type 0) (Check : Type 0) (ended : Ended) (counts now : PerName) → cause ≡ k → IsPlainCause k → NothingRan ended → RunShown cause Program Check ended counts now
+pub at_plain : (cause k : Cause) (Program : CheckedGraph → Type 0) (Check : Type 0) (ended : Ended) (counts now : PerName) → cause ≡ k → IsPlainCause k counts now → NothingRan ended → RunShown cause Program Check ended counts now
 at_plain cause k Program Check ended counts now is plain none =
     subst (λ (x : Cause). RunShown x Program Check ended counts now) (sym is) (plain_ran k Program Check ended counts now plain none)
 
-pub or_ran : (expected cause : Cause) (Program : CheckedGraph → Type 0) (Check : Type 0) (ended : Ended) (counts now : PerName) → IsOr expected cause → IsPlainCause expected → NothingRan ended
+pub or_ran : (expected cause : Cause) (Program : CheckedGraph → Type 0) (Check : Type 0) (ended : Ended) (counts now : PerName) → IsOr expected cause → IsPlainCause expected counts now → NothingRan ended
     → RunShown cause Program Check ended counts now
 or_ran expected cause Program Check ended counts now (inl e) plain none =
     subst (λ (k : Cause). RunShown k Program Check ended counts now) (sym e) (plain_ran expected Program Check ended counts now plain none)
@@ -294,7 +335,9 @@ run_same C.Done Program Check ended r status counts now (inr h) = inr h
 run_same (C.Stopped fault) Program Check ended r status counts now h = h
 run_same (C.WriteFailed name) Program Check ended r status counts now (inl (check, none)) = inl (check, none_same ended r status none)
 run_same (C.WriteFailed name) Program Check ended r status counts now (inr h) = inr h
-run_same (C.OpenFailed name) Program Check ended r status counts now none = none_same ended r status none
+run_same (C.OpenFailed name) Program Check ended r status counts now (inl (none, rose)) = inl (none_same ended r status none, rose)
+run_same (C.OpenFailed name) Program Check ended r status counts now (inr h) =
+    inr (record { rose = h.rose; none = h.none; untaken = h.untaken })
 run_same C.NoMemory Program Check ended r status counts now (inl none) = inl none
 run_same C.NoMemory Program Check ended r status counts now (inr h) = inr h
 run_same C.BadWords Program Check ended r status counts now none = none_same ended r status none
@@ -304,13 +347,15 @@ run_same (C.ReadFailed name) Program Check ended r status counts now none = none
 run_same (C.BadArrivals op) Program Check ended r status counts now none = none_same ended r status none
 
 -- memory ran out after it
-run_wanting : (cause : Cause) (Program : CheckedGraph → Type 0) (Check : Type 0) (ended : Ended) (counts now : PerName) → RunShown cause Program Check ended counts now → (ended.arrivals.lists ≡ []) ⊎ Ran Program ended counts now
+run_wanting : (cause : Cause) (Program : CheckedGraph → Type 0) (Check : Type 0) (ended : Ended) (counts now : PerName)
+    → RunShown cause Program Check ended counts now → (ended.arrivals.lists ≡ []) ⊎ RanWith IsRecordSoFar Program ended counts now
 run_wanting C.Done Program Check ended counts now (inl (check, none)) = inl none.lists
-run_wanting C.Done Program Check ended counts now (inr (c, g, m, p, ran, fault, counted)) = inr (c, g, m, p, ran)
-run_wanting (C.Stopped f) Program Check ended counts now (c, g, m, p, ran, fault, counted) = inr (c, g, m, p, ran)
+run_wanting C.Done Program Check ended counts now (inr (c, g, m, p, ran, fault, counted)) = inr (whole_so_far Program ended counts now (c, g, m, p, ran))
+run_wanting (C.Stopped f) Program Check ended counts now (c, g, m, p, ran, fault, counted) = inr (whole_so_far Program ended counts now (c, g, m, p, ran))
 run_wanting (C.WriteFailed name) Program Check ended counts now (inl (check, none)) = inl none.lists
-run_wanting (C.WriteFailed name) Program Check ended counts now (inr h) = inr h
-run_wanting (C.OpenFailed name) Program Check ended counts now none = inl none.lists
+run_wanting (C.WriteFailed name) Program Check ended counts now (inr h) = inr (whole_so_far Program ended counts now h)
+run_wanting (C.OpenFailed name) Program Check ended counts now (inl (none, rose)) = inl none.lists
+run_wanting (C.OpenFailed name) Program Check ended counts now (inr h) = inr (untaken_so_far Program ended counts now h.untaken)
 run_wanting C.NoMemory Program Check ended counts now h = h
 run_wanting C.BadWords Program Check ended counts now none = inl none.lists
 run_wanting (C.Refused refusal) Program Check ended counts now none = inl none.lists

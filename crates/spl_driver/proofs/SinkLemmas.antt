@@ -21,15 +21,16 @@ use Rattle.stream_model.specs.Operators.{Operator}
 use Rattle.stream_model.specs.Rows.{text_of}
 use Rattle.stream_model.specs.Stages.{out}
 use Rattle.stream_model.specs.Stream.{is_tuple}
-use Rattle.check_laws.specs.Files.{sink_file, sink_files, is_named, OwnFiles}
+use Rattle.language_model.specs.Files.{sink_file, sink_files, OwnFiles}
+use Rattle.language_model.specs.Names.{is_named}
 use Rattle.file_adapters.specs.declared.sinks.Sink.{Sink}
 use Rattle.file_adapters.specs.declared.sinks.Sunk.{Sunk}
 use Rattle.file_adapters.specs.declared.sinks.Sunk.TheVariants as W
 use Rattle.file_adapters.specs.Sinks as S
 use Rattle.file_adapters.specs.Sinks.{AreDistinct, EmptyBefore, HasOwnFile, HoldsFront, SinksCount, SinksHold, names_of, sink_names, sink_rows, stream_at}
 use Rattle.list_engine.specs.RunLaws.{SinkLaw}
-use Rattle.list_engine.specs.Runs.{SinksGiven}
-use Rattle.spl_driver.specs.Answer.{EachSink, HoldsPrefix, HoldsText, HoldsUnlessFailed, SameFiles, sink_count, sink_text}
+use Rattle.stream_model.specs.Runs.{SinksGiven, sink_count}
+use Rattle.spl_driver.specs.Answer.{EachSink, HoldsPrefix, HoldsText, HoldsUnlessFailed, SameFiles, sink_text}
 use Rattle.spl_driver.specs.steps.Steps.{IsNamedBy, counts_from, created_by, last_of, sinks_from, sinks_of}
 use Rattle.spl_driver.proofs.Operators.{operator_at, ops_made}
 
@@ -177,14 +178,14 @@ given c g m lists n op file k e law are there has =
 
 text_is : (c : CheckedGraph) (g : Graph) (m : Meaning) (lists : List (List Item)) (n : ℕ) (op : Op) (file : List ℕ) → Keeps c → graph_of c ≡ g → SinkLaw → SinksGiven g m lists
     → slice_get c.graph.ops n ≡ Some op → slice_get c.parts n ≡ Some (A.FileSink file)
-    → sink_text m (operator_with c n op (A.FileSink file)) ≡ S.sink_text lists (sink_with n file)
+    → sink_text m (operator_with c n op (A.FileSink file)) ≡ S.file_text lists (sink_with n file)
 text_is c g m lists n op file k e law are there has = ap text_of (sym (given c g m lists n op file k e law are there has))
 
 -- each sink's file holds its text
 pub texts : (c : CheckedGraph) (g : Graph) (m : Meaning) (lists : List (List Item)) → Keeps c → graph_of c ≡ g → SinkLaw → SinksGiven g m lists
     → (ns : List ℕ) (names : List (List ℕ)) (counts now : PerName) (t u : Told) → SinksHold (W.Done ns) (sinks_of c) names lists counts now t u → EachSink (HoldsText m u) g.ops
 texts c g m lists k e law are ns names counts now t u holds =
-    each_of (HoldsText m u) (λ s. u.holds s.file ≡ Some (S.sink_text lists s)) c g e
+    each_of (HoldsText m u) (λ s. u.holds s.file ≡ Some (S.file_text lists s)) c g e
     (λ n op file there has h. h ∙ ap (λ x. Some x) (sym (text_is c g m lists n op file k e law are there has))) holds
 
 front_held : (m : Meaning) (t u : Told) (op : Operator) (file given : List ℕ) → sink_text m op ≡ given
@@ -208,15 +209,15 @@ some_named (m ∷ names) n e = named_by m names n (bytes_eq m n) refl (some_name
 
 -- what each sink's file holds, by the text of its stream
 abbrev FrontOrSame : List (List Item) → Told → Told → Sink → Type 0
-FrontOrSame streams t u s = (u.holds s.file ≡ t.holds s.file) ⊎ HoldsFront (S.sink_text streams s) (u.holds s.file)
+FrontOrSame streams t u s = (u.holds s.file ≡ t.holds s.file) ⊎ HoldsFront (S.file_text streams s) (u.holds s.file)
 
-all_fronts : (streams : List (List Item)) (t u : Told) (sinks : List Sink) → All (λ s. u.holds s.file ≡ Some (S.sink_text streams s)) sinks → All (FrontOrSame streams t u) sinks
+all_fronts : (streams : List (List Item)) (t u : Told) (sinks : List Sink) → All (λ s. u.holds s.file ≡ Some (S.file_text streams s)) sinks → All (FrontOrSame streams t u) sinks
 all_fronts streams t u sinks h =
-    All-weaker (λ (s : Sink). u.holds s.file ≡ Some (S.sink_text streams s)) (FrontOrSame streams t u)
-    (λ s e. inr (length (S.sink_text streams s), e ∙ ap (λ x. Some x) (sym (take-length (S.sink_text streams s))))) sinks h
+    All-weaker (λ (s : Sink). u.holds s.file ≡ Some (S.file_text streams s)) (FrontOrSame streams t u)
+    (λ s e. inr (length (S.file_text streams s), e ∙ ap (λ x. Some x) (sym (take-length (S.file_text streams s))))) sinks h
 
-unless_front : (streams : List (List Item)) (counts now : PerName) (t u : Told) (s : Sink) → S.HoldsUnlessFailed (S.sink_text streams s) (counts s.file) (now s.file) (u.holds s.file) → FrontOrSame streams t u s
-unless_front streams counts now t u s (inl (quiet, e)) = inr (length (S.sink_text streams s), e ∙ ap (λ x. Some x) (sym (take-length (S.sink_text streams s))))
+unless_front : (streams : List (List Item)) (counts now : PerName) (t u : Told) (s : Sink) → S.HoldsUnlessUnwritten (S.file_text streams s) (counts s.file) (now s.file) (u.holds s.file) → FrontOrSame streams t u s
+unless_front streams counts now t u s (inl (quiet, e)) = inr (length (S.file_text streams s), e ∙ ap (λ x. Some x) (sym (take-length (S.file_text streams s))))
 unless_front streams counts now t u s (inr (rose, front)) = inr front
 
 -- a sink's file is as it was, or empty
@@ -252,7 +253,7 @@ fronts_of : (r : Sunk) (streams : List (List Item)) (sinks : List Sink) (names :
 fronts_of (W.Done ns) streams sinks names counts now t u holds = all_fronts streams t u sinks holds
 fronts_of (W.NotCreated place) streams sinks names counts now t u holds = λ k d small. empty_front streams place names t u holds (slice_index_or sinks k d)
 fronts_of (W.NotWritten place) streams sinks names counts now t u holds =
-    All-weaker (λ (s : Sink). S.HoldsUnlessFailed (S.sink_text streams s) (counts s.file) (now s.file) (u.holds s.file)) (FrontOrSame streams t u) (unless_front streams counts now t u) sinks holds
+    All-weaker (λ (s : Sink). S.HoldsUnlessUnwritten (S.file_text streams s) (counts s.file) (now s.file) (u.holds s.file)) (FrontOrSame streams t u) (unless_front streams counts now t u) sinks holds
 fronts_of W.Memory streams sinks names counts now t u holds = holds
 
 -- each sink's file is as it was, or holds a prefix of its text
@@ -260,10 +261,10 @@ pub prefixes : (c : CheckedGraph) (g : Graph) (m : Meaning) (lists : List (List 
     → (result : Sunk) (names : List (List ℕ)) (counts now : PerName) (t u : Told) → SinksHold result (sinks_of c) names lists counts now t u → EachSink (HoldsPrefix m t u) g.ops
 prefixes c g m lists k e law are result names counts now t u holds =
     each_of (HoldsPrefix m t u) (FrontOrSame lists t u) c g e
-    (λ n op file there has h. front_held m t u (operator_with c n op (A.FileSink file)) file (S.sink_text lists (sink_with n file))
+    (λ n op file there has h. front_held m t u (operator_with c n op (A.FileSink file)) file (S.file_text lists (sink_with n file))
     (text_is c g m lists n op file k e law are there has) h) (fronts_of result lists (sinks_of c) names counts now t u holds)
 
-unless_held : (m : Meaning) (counts now : PerName) (u : Told) (op : Operator) (file given : List ℕ) → sink_text m op ≡ given → S.HoldsUnlessFailed given (counts file) (now file) (u.holds file)
+unless_held : (m : Meaning) (counts now : PerName) (u : Told) (op : Operator) (file given : List ℕ) → sink_text m op ≡ given → S.HoldsUnlessUnwritten given (counts file) (now file) (u.holds file)
     → HoldsUnlessFailed m counts now u op file
 unless_held m counts now u op file given e (inl (quiet, h)) = inl (quiet, h ∙ ap (λ x. Some x) (sym e))
 unless_held m counts now u op file given e (inr (rose, front)) = inr (rose, (front.0, front.1 ∙ ap (λ x. Some (take front.0 x)) (sym e)))
@@ -272,8 +273,8 @@ unless_held m counts now u op file given e (inr (rose, front)) = inr (rose, (fro
 pub wrote_others : (c : CheckedGraph) (g : Graph) (m : Meaning) (lists : List (List Item)) → Keeps c → graph_of c ≡ g → SinkLaw → SinksGiven g m lists
     → (place : ℕ) (names : List (List ℕ)) (counts now : PerName) (t u : Told) → SinksHold (W.NotWritten place) (sinks_of c) names lists counts now t u → EachSink (HoldsUnlessFailed m counts now u) g.ops
 wrote_others c g m lists k e law are place names counts now t u holds =
-    each_of (HoldsUnlessFailed m counts now u) (λ s. S.HoldsUnlessFailed (S.sink_text lists s) (counts s.file) (now s.file) (u.holds s.file)) c g e
-    (λ n op file there has h. unless_held m counts now u (operator_with c n op (A.FileSink file)) file (S.sink_text lists (sink_with n file))
+    each_of (HoldsUnlessFailed m counts now u) (λ s. S.HoldsUnlessUnwritten (S.file_text lists s) (counts s.file) (now s.file) (u.holds s.file)) c g e
+    (λ n op file there has h. unless_held m counts now u (operator_with c n op (A.FileSink file)) file (S.file_text lists (sink_with n file))
     (text_is c g m lists n op file k e law are there has) h) holds
 
 -- ---- their rows

@@ -17,24 +17,25 @@ use Rattle.run_report.specs.declared.cause.Cause.TheVariants as C
 use Rattle.command_line.specs.declared.request.Request.{Request}
 use Rattle.command_line.specs.declared.request.Request.TheVariants as R
 use Rattle.command_line.specs.Request.{file_names}
-use Rattle.check_laws.specs.Files.{is_named, source_files}
+use Rattle.language_model.specs.Files.{source_files}
+use Rattle.language_model.specs.Names.{is_named}
 use Rattle.spl_value.specs.declared.item.Fault.{Fault}
 use Rattle.source_rows.specs.Counting.{OpeningFailed}
 use Rattle.spl_driver.specs.Built.{is_built}
 use Rattle.spl_driver.specs.Files.{FilesOf, files_of, opens, creates, most_bytes, row_files, whole_files, program_of}
-use Rattle.spl_driver.specs.Outcome.{RequestOutcome, NoRequest, Unreadable, Refused, NotBuilt, Reports, BadArrivals, Runs, fails_within, has_fault, IsOutcome, IsProgramOf, no_request, not_built, ArePartsIn, of_program, meant}
-use Rattle.spl_driver.specs.Answer.{EachSink, HoldsText, SameFiles, Begun, CauseMeans, ReportsTo, RunsTo, WroteOthers, StoppedCreating, TellingFailed, DevicesMean, ReadingFailed, WholeReads, NoCountChanged, StoppedBy, Answered, ByWords, FollowsRecord, IsOr, IsRun, IsUnread, NeedsRecord, RecordHolds, WritesRecord}
+use Rattle.spl_driver.specs.Outcome.{RequestOutcome, NoRequest, Unreadable, Refused, NotBuilt, Reports, BadArrivals, Runs, IsReplay, fails_within, has_fault, IsOutcome, IsProgramOf, no_request, not_built, ArePartsIn, of_program, meant}
+use Rattle.spl_driver.specs.Answer.{ComesBehind, ComesInOrder, FollowsBy, IsSpelled, IsUnrefused, WroteNothing, EachSink, HoldsText, SameFiles, Begun, CauseMeans, ReportsTo, RunsTo, WroteOthers, StoppedCreating, TellingFailed, DevicesMean, ReadingFailed, WholeReads, NoCountChanged, StoppedBy, Answered, ByWords, FollowsRecord, IsOr, IsRun, IsUnread, NeedsRecord, RecordHolds, WritesRecord}
 use Rattle.spl_driver.specs.Texts.{wants_counts, IsToldOutcome, EndsTelling, IsTextOf, MayComeTo}
 use Rattle.spl_driver.specs.steps.Telling.{IsText}
 use Rattle.spl_driver.specs.RequestLaws.{OnePartsLaw}
 use Rattle.spl_driver.specs.AcceptedLaws.{OneAcceptedLaw}
 use Rattle.arrival_format.specs.ArrivalTexts.{Spells, arrivals_text}
-use Rattle.spl_driver.specs.steps.Steps.{FirstOpening, FirstReading, MayBeOutcome, CompiledAt, FollowsFile, IsAcceptedOutcome, IsToldAcceptedOutcome, CountsShow, FilesShow, RecordFor, RecordOf, WholeFails, is_ended_run}
+use Rattle.spl_driver.specs.steps.Steps.{ReadInOrder, SpelledUnless, FirstOpening, FirstReading, MayBeOutcome, CompiledAt, FollowsFile, IsAcceptedOutcome, IsToldAcceptedOutcome, CountsShow, FilesShow, RecordFor, RecordOf, WholeFails, is_ended_run}
 use Rattle.spl_driver.proofs.Causes.{ReadingAnswered, EndsWith}
 use Rattle.spl_driver.specs.declared.compiled.Compiled.TheVariants as P
 use Rattle.spl_driver.specs.declared.ended.Ended.{Ended}
 use Rattle.spl_driver.proofs.Fetching.{fails_more, own_name, quiet_only, read_itself, reads_whole, told_again, same_told}
-use Rattle.spl_driver.proofs.Replaying.{replay_graph}
+use Rattle.spl_driver.proofs.Replaying.{replay_graph, unrefused_replay}
 use Rattle.spl_driver.proofs.Requests.{IsFoundOutcome, back_found, outcome_found}
 use Rattle.spl_value.proofs.Bools.{or_false as or_none}
 use Rattle.spl_value.proofs.Lists.{same_name, same_or_not}
@@ -201,34 +202,80 @@ needs_by (Some (R.Replay p file)) ended t h = λ fault. h p file refl
 needs_by (Some (R.Simulate p width schedule steps)) ended t h = tt
 needs_by (Some (R.Make name rows start)) ended t h = tt
 
--- the request was carried out, or what it gave couldn't be written
-pub ended_run : (k : Cause) → IsRun k ⊎ ((name : List ℕ) × (k ≡ C.WriteFailed name)) → is_ended_run k ≡ true
-ended_run k (inl (None, e)) = ap is_ended_run e
-ended_run k (inl (Some f, e)) = ap is_ended_run e
-ended_run k (inr (name, e)) = ap is_ended_run e
+-- a replay that was carried out has the record of its file
+pub follows_run : (k : Cause) (Spelled Unwritten : Type 0) → IsRun k → FollowsBy k Spelled Unwritten → Spelled
+follows_run k Spelled Unwritten (None, e) h = subst (λ (c : Cause). FollowsBy c Spelled Unwritten) e h
+follows_run k Spelled Unwritten (Some fault, e) h = subst (λ (c : Cause). FollowsBy c Spelled Unwritten) e h
 
--- and back
-pub ended_is : (k : Cause) → is_ended_run k ≡ true → IsRun k ⊎ ((name : List ℕ) × (k ≡ C.WriteFailed name))
-ended_is C.Done e = inl (None, refl)
-ended_is (C.Stopped fault) e = inl (Some fault, refl)
-ended_is (C.WriteFailed name) e = inr (name, refl)
-ended_is C.NotBuilt e = cc
-ended_is C.BadWords e = cc
-ended_is (C.Refused refusal) e = cc
-ended_is (C.OpenFailed name) e = cc
-ended_is (C.ReadFailed name) e = cc
-ended_is (C.BadArrivals op) e = cc
-ended_is C.NoMemory e = cc
+-- where no run ended and nothing was written no record is followed
+pub follows_unwritten : (k : Cause) (Spelled Unwritten : Type 0) → is_ended_run k ≡ false → Unwritten
+    → FollowsBy k Spelled Unwritten
+follows_unwritten C.Done Spelled Unwritten none h = cc
+follows_unwritten (C.Stopped fault) Spelled Unwritten none h = cc
+follows_unwritten (C.WriteFailed name) Spelled Unwritten none h = cc
+follows_unwritten C.NoMemory Spelled Unwritten none h = inr h
+follows_unwritten C.NotBuilt Spelled Unwritten none h = h
+follows_unwritten C.BadWords Spelled Unwritten none h = h
+follows_unwritten (C.Refused refusal) Spelled Unwritten none h = h
+follows_unwritten (C.OpenFailed name) Spelled Unwritten none h = h
+follows_unwritten (C.ReadFailed name) Spelled Unwritten none h = h
+follows_unwritten (C.BadArrivals op) Spelled Unwritten none h = h
 
--- where no run ended none is followed
-pub follows_none : (request : Option Request) (Is : RequestOutcome → Type 0) (ended : Ended) (t : Told) → is_ended_run ended.cause ≡ false → FollowsRecord request Is ended t
-follows_none None Is ended t e = tt
-follows_none (Some (R.Check p)) Is ended t e = tt
-follows_none (Some (R.Plan p)) Is ended t e = tt
-follows_none (Some (R.Run p options)) Is ended t e = tt
-follows_none (Some (R.Replay p file)) Is ended t e = λ run. absurd (let bad : false ≡ true = sym e ∙ ended_run ended.cause run in cc)
-follows_none (Some (R.Simulate p width schedule steps)) Is ended t e = tt
-follows_none (Some (R.Make name rows start)) Is ended t e = tt
+pub follows_none : (request : Option Request) (Is : RequestOutcome → Type 0) (ended : Ended) (t u : Told)
+    → is_ended_run ended.cause ≡ false → SameFiles t u → FollowsRecord request Is ended t u
+follows_none None Is ended t u e same = tt
+follows_none (Some (R.Check p)) Is ended t u e same = tt
+follows_none (Some (R.Plan p)) Is ended t u e same = tt
+follows_none (Some (R.Run p options)) Is ended t u e same = tt
+follows_none (Some (R.Replay p file)) Is ended t u e same = λ c g m is.
+    follows_unwritten ended.cause (Spells c (t.script file).bytes ended.arrivals) (WroteNothing c ended t u) e (inl same)
+follows_none (Some (R.Simulate p width schedule steps)) Is ended t u e same = tt
+follows_none (Some (R.Make name rows start)) Is ended t u e same = tt
+
+-- ---- which refusal comes first
+
+-- where no count changed no file is named
+quiet_order : (cause : Cause) (request : Option Request) (Is : RequestOutcome → Type 0) → IsQuiet cause
+    → ComesInOrder cause request Is
+quiet_order C.Done request Is quiet = tt
+quiet_order (C.Stopped fault) request Is quiet = tt
+quiet_order C.NotBuilt request Is quiet = tt
+quiet_order C.BadWords request Is quiet = tt
+quiet_order (C.Refused refusal) request Is quiet = tt
+quiet_order (C.BadArrivals op) request Is quiet = tt
+quiet_order C.NoMemory request Is quiet = tt
+quiet_order (C.OpenFailed name) request Is quiet = absurd quiet
+quiet_order (C.ReadFailed name) request Is quiet = absurd quiet
+quiet_order (C.WriteFailed name) request Is quiet = absurd quiet
+
+-- a request has one program
+one_program : (request : Request) (p q : List ℕ) → program_of request ≡ Some p → program_of request ≡ Some q → p ≡ q
+one_program request p q first second = let same : Some p ≡ Some q = sym first ∙ second in cc
+
+-- no file is read before the program's
+behind_program : (request : Request) (program : List ℕ) (Is : RequestOutcome → Type 0) → program_of request ≡ Some program
+    → ComesBehind (Some request) program Is
+behind_program (R.Check p) program Is of = λ q is other. absurd (other (one_program (R.Check p) program q of is))
+behind_program (R.Plan p) program Is of = λ q is other. absurd (other (one_program (R.Plan p) program q of is))
+behind_program (R.Run p options) program Is of = λ q is other.
+    absurd (other (one_program (R.Run p options) program q of is))
+behind_program (R.Replay p file) program Is of = λ other.
+    absurd (other (one_program (R.Replay p file) program p of refl))
+behind_program (R.Simulate p width schedule steps) program Is of = λ q is other.
+    absurd (other (one_program (R.Simulate p width schedule steps) program q of is))
+behind_program (R.Make name rows start) program Is of = λ q is other.
+    absurd (other (one_program (R.Make name rows start) program q of is))
+
+-- the program alone couldn't be opened or read
+program_order : (cause : Cause) (request : Request) (program : List ℕ) (Is : RequestOutcome → Type 0)
+    → program_of request ≡ Some program
+    → (cause ≡ C.NoMemory) ⊎ ((cause ≡ C.OpenFailed program) ⊎ (cause ≡ C.ReadFailed program))
+    → ComesInOrder cause (Some request) Is
+program_order cause request program Is of (inl e) = subst (λ (k : Cause). ComesInOrder k (Some request) Is) (sym e) tt
+program_order cause request program Is of (inr (inl e)) =
+    subst (λ (k : Cause). ComesInOrder k (Some request) Is) (sym e) (behind_program request program Is of)
+program_order cause request program Is of (inr (inr e)) =
+    subst (λ (k : Cause). ComesInOrder k (Some request) Is) (sym e) (behind_program request program Is of)
 
 -- where no run ended, the file that a record is written into holds what it held
 pub record_kept : (k : Cause) (parts : List CheckedClauses) (file text : List ℕ) (counts now : PerName) (TextFailed Sinks : Type 0) (t u : Told) → is_ended_run k ≡ false → u.holds file ≡ t.holds file → RecordHolds k parts file text counts now TextFailed Sinks t u
@@ -282,7 +329,9 @@ quiet_answer (Some t) (Some u) request cause ended counts later is other unread 
   whole = λ parts are n named differs. absurd (differs (ap (λ c. c.reading) (quiet n)));
   reads = λ n differs. absurd (differs (ap (λ c. c.reading) (quiet n)));
   needed = needs_by request ended t (λ p file e. subst (λ (k : Cause). ((refusal : Refusal) × (k ≡ C.Refused refusal)) ⊎ IsUnread (p ∷ file ∷ []) k) (sym is) (needs p file e));
-  followed = follows_none request (IsOutcome t ended.arrivals request) ended t (ap is_ended_run is ∙ none);
+  followed = follows_none request (IsOutcome t ended.arrivals request) ended t u (ap is_ended_run is ∙ none) same.holds;
+  in_order = subst (λ (c : Cause). ComesInOrder c request (IsOutcome t ended.arrivals request)) (sym is)
+      (quiet_order cause request (IsOutcome t ended.arrivals request) other);
   recorded = writes_none request (IsOutcome t ended.arrivals request) ended counts later ⊥ t u (ap is_ended_run is ∙ none) same.holds;
 }
 
@@ -322,11 +371,11 @@ OpensFirst request program parts = (rest : List (List ℕ)) × (opens (Some requ
 opens_program : (request : Request) (program : List ℕ) (parts : List CheckedClauses) → program_of request ≡ Some program → OpensFirst request program parts
 opens_program (R.Check p) program parts e = let same : p ≡ program = cc in ([], ap (λ (q : List ℕ). q ∷ []) same)
 opens_program (R.Plan p) program parts e = let same : p ≡ program = cc in ([], ap (λ (q : List ℕ). q ∷ []) same)
-opens_program (R.Run p options) program parts e = let same : p ≡ program = cc in (_, ap (λ (q : List ℕ). q ∷ Rattle.check_laws.specs.Files.source_files parts) same)
+opens_program (R.Run p options) program parts e = let same : p ≡ program = cc in (_, ap (λ (q : List ℕ). q ∷ Rattle.language_model.specs.Files.source_files parts) same)
 opens_program (R.Replay p arrivals) program parts e =
-    let same : p ≡ program = cc in (_, ap (λ (q : List ℕ). q ∷ arrivals ∷ Rattle.check_laws.specs.Files.source_files parts) same)
+    let same : p ≡ program = cc in (_, ap (λ (q : List ℕ). q ∷ arrivals ∷ Rattle.language_model.specs.Files.source_files parts) same)
 opens_program (R.Simulate p width schedule steps) program parts e =
-    let same : p ≡ program = cc in (_, ap (λ (q : List ℕ). q ∷ Rattle.check_laws.specs.Files.source_files parts) same)
+    let same : p ≡ program = cc in (_, ap (λ (q : List ℕ). q ∷ Rattle.language_model.specs.Files.source_files parts) same)
 opens_program (R.Make name rows start) program parts e = absurd cc
 
 or_first : (a b c : Bool) → ((a || b) || c) ≡ false → a ≡ false
@@ -429,7 +478,9 @@ program_answer (Some t) (Some u) request program cause ended counts later of is 
   whole = λ parts are. subst (λ (c : Cause). WholeReads c (files_of (Some request) parts) counts later t) (sym is) (whole_only cause request parts program counts later t others reads at);
   reads = reads_whole (Some t) counts later reads;
   needed = needs_by (Some request) ended t (λ p file e. inr (subst (IsUnread (p ∷ file ∷ [])) (sym is) (by_names p file e names)));
-  followed = follows_none (Some request) (IsOutcome t ended.arrivals (Some request)) ended t (ap is_ended_run is ∙ none);
+  followed = follows_none (Some request) (IsOutcome t ended.arrivals (Some request)) ended t u (ap is_ended_run is ∙ none) same.holds;
+  in_order = subst (λ (c : Cause). ComesInOrder c (Some request) (IsOutcome t ended.arrivals (Some request))) (sym is)
+      (program_order cause request program (IsOutcome t ended.arrivals (Some request)) of names);
   recorded = writes_none (Some request) (IsOutcome t ended.arrivals (Some request)) ended counts later ⊥ t u (ap is_ended_run is ∙ none) same.holds;
 }
   where
@@ -468,16 +519,77 @@ outcome_back : OneAcceptedLaw → (t : Told) (request : Request) (program : List
 outcome_back one t request program c arrivals r built of quiet accepted is =
     back_found one t arrivals request program c r built of (record { read = quiet; accepted = accepted }) is
 
--- a replay that ended has the record of its file
-follows_told : (request : Request) (c : CheckedGraph) (ended : Ended) (t : Told) (program : List ℕ) → OneAcceptedLaw → program_of request ≡ Some program
-    → has_fault (t.script program) ≡ false → IsAccepted (t.script program).bytes (file_names request) (Ok c) → FollowsFile request c ended t → FollowsRecord (Some request) (IsOutcome t ended.arrivals (Some request)) ended t
-follows_told (R.Check p) c ended t program one of quiet accepted h = tt
-follows_told (R.Plan p) c ended t program one of quiet accepted h = tt
-follows_told (R.Run p options) c ended t program one of quiet accepted h = tt
-follows_told (R.Replay p file) c ended t program one of quiet accepted h = λ run x g m is.
-    subst (λ (y : CheckedGraph). Spells y (t.script file).bytes ended.arrivals) (sym (replay_graph t c file x g m (back_found one t ended.arrivals (R.Replay p file) program c (Runs x g m) refl of (record { read = quiet; accepted = accepted }) is))) (h (ended_run ended.cause run))
-follows_told (R.Simulate p width schedule steps) c ended t program one of quiet accepted h = tt
-follows_told (R.Make name rows start) c ended t program one of quiet accepted h = tt
+-- a replay has the record of its file
+follows_told : (request : Request) (c : CheckedGraph) (ended : Ended) (t u : Told) (program : List ℕ) → OneAcceptedLaw
+    → program_of request ≡ Some program → has_fault (t.script program) ≡ false
+    → IsAccepted (t.script program).bytes (file_names request) (Ok c) → FollowsFile request c ended t u
+    → FollowsRecord (Some request) (IsOutcome t ended.arrivals (Some request)) ended t u
+follows_told (R.Check p) c ended t u program one of quiet accepted h = tt
+follows_told (R.Plan p) c ended t u program one of quiet accepted h = tt
+follows_told (R.Run p options) c ended t u program one of quiet accepted h = tt
+follows_told (R.Replay p file) c ended t u program one of quiet accepted h = λ x g m is.
+    let found = back_found one t ended.arrivals (R.Replay p file) program c (Runs x g m) refl of
+    (record { read = quiet; accepted = accepted }) is in
+    subst (λ (y : CheckedGraph). FollowsBy ended.cause (Spells y (t.script file).bytes ended.arrivals)
+    (WroteNothing y ended t u)) (sym (replay_graph t c file x g m found)) h
+follows_told (R.Simulate p width schedule steps) c ended t u program one of quiet accepted h = tt
+follows_told (R.Make name rows start) c ended t u program one of quiet accepted h = tt
+
+-- an accepted program isn't refused
+unrefused : (request : Request) (c : CheckedGraph) (arrivals : Arrivals) (t : Told) (refusal : Refusal)
+    → IsAcceptedOutcome request c arrivals t (Refused refusal) → ⊥
+unrefused (R.Check p) c arrivals t refusal e = cc
+unrefused (R.Plan p) c arrivals t refusal e = cc
+unrefused (R.Run p options) c arrivals t refusal e = cc
+unrefused (R.Replay p file) c arrivals t refusal h = unrefused_replay t c file (Refused refusal) refusal h refl
+unrefused (R.Simulate p width schedule steps) c arrivals t refusal e = cc
+unrefused (R.Make name rows start) c arrivals t refusal e = cc
+
+-- what comes after an accepted program is read
+module _ (one : OneAcceptedLaw) (c : CheckedGraph) (arrivals : Arrivals) (t : Told) (program : List ℕ)
+    (quiet : has_fault (t.script program) ≡ false) where
+  -- the request is that of this program
+  abbrev Reads : Request → Type 0
+  Reads request = (is_built request ≡ true) × (program_of request ≡ Some program)
+      × IsAccepted (t.script program).bytes (file_names request) (Ok c)
+
+  not_refused : (request : Request) → Reads request → IsUnrefused (IsOutcome t arrivals (Some request))
+  not_refused request (built, of, accepted) refusal is =
+      unrefused request c arrivals t refusal (outcome_back one t request program c arrivals (Refused refusal) built of quiet accepted is)
+
+  behind_told : (request : Request) (name : List ℕ) → Reads request
+      → ((p file : List ℕ) → request ≡ R.Replay p file → name ≢ file → IsSpelled (IsReplay t c file))
+      → ComesBehind (Some request) name (IsOutcome t arrivals (Some request))
+  behind_told (R.Check p) name reads spelled = λ q is other. not_refused (R.Check p) reads
+  behind_told (R.Plan p) name reads spelled = λ q is other. not_refused (R.Plan p) reads
+  behind_told (R.Run p options) name reads spelled = λ q is other. not_refused (R.Run p options) reads
+  behind_told (R.Replay p file) name (built, of, accepted) spelled = λ other. (
+    not_refused (R.Replay p file) (built, of, accepted),
+    λ apart x is. spelled p file refl apart x
+        (outcome_back one t (R.Replay p file) program c arrivals (BadArrivals x None) built of quiet accepted is),
+  )
+  behind_told (R.Simulate p width schedule steps) name reads spelled = λ q is other.
+      not_refused (R.Simulate p width schedule steps) reads
+  behind_told (R.Make name rows start) file reads spelled = λ q is other. not_refused (R.Make name rows start) reads
+
+  in_order_told : (cause : Cause) (request : Request) → Reads request
+      → ((p file : List ℕ) → request ≡ R.Replay p file → SpelledUnless cause file (IsReplay t c file))
+      → ComesInOrder cause (Some request) (IsOutcome t arrivals (Some request))
+  in_order_told (C.OpenFailed name) request reads spelled = behind_told request name reads spelled
+  in_order_told (C.ReadFailed name) request reads spelled = behind_told request name reads spelled
+  in_order_told C.Done request reads spelled = tt
+  in_order_told (C.Stopped fault) request reads spelled = tt
+  in_order_told C.NotBuilt request reads spelled = tt
+  in_order_told C.BadWords request reads spelled = tt
+  in_order_told (C.Refused refusal) request reads spelled = tt
+  in_order_told (C.BadArrivals op) request reads spelled = tt
+  in_order_told (C.WriteFailed name) request reads spelled = tt
+  in_order_told C.NoMemory request reads spelled = tt
+
+-- by its request
+spelled_by : (request : Request) (c : CheckedGraph) (ended : Ended) (t : Told) → ReadInOrder request c ended t → (p file : List ℕ)
+    → request ≡ R.Replay p file → SpelledUnless ended.cause file (IsReplay t c file)
+spelled_by request c ended t h p file e = subst (λ (q : Request). ReadInOrder q c ended t) e h
 
 -- and a run writes the record that it returns
 record_again : (ended : Ended) (file : List ℕ) (counts now : PerName) (t u : Told) (x c : CheckedGraph) (g h : Graph) (m k : Meaning) → Runs x g m ≡ Runs c h k
@@ -510,12 +622,12 @@ pub accepted_answer : OneAcceptedLaw → OnePartsLaw → (told mid now : Option 
     → IfSome told (λ t. CompiledAt (P.Checked c) (t.script program) (file_names request))
     → WhereTold told mid TellsSame → NoCountChanged counts between
     → WhereTold mid now (λ t u. FilesShow (IsAcceptedOutcome request c ended.arrivals t) (files_of (Some request) c.parts) ended between later t u)
-    → CountsShow ended.cause c.parts (files_of (Some request) c.parts) between later → IfSome mid (NeedsRecord (Some request) ended) → IfSome mid (FollowsFile request c ended)
+    → CountsShow ended.cause c.parts (files_of (Some request) c.parts) between later → IfSome mid (NeedsRecord (Some request) ended) → WhereTold mid now (FollowsFile request c ended) → IfSome mid (ReadInOrder request c ended)
     → WhereTold mid now (RecordFor request c ended between later) → WhereTold told now (Answered (Some request) ended counts later ⊥)
-accepted_answer one parts_one None mid now request program c ended counts between later built of made same quiet files shown needed followed recorded = tt
-accepted_answer one parts_one (Some t) None now request program c ended counts between later built of made same quiet files shown needed followed recorded = absurd same
-accepted_answer one parts_one (Some t) (Some s) None request program c ended counts between later built of made same quiet files shown needed followed recorded = files
-accepted_answer one parts_one (Some t) (Some s) (Some u) request program c ended counts between later built of made same quiet files shown needed followed recorded =
+accepted_answer one parts_one None mid now request program c ended counts between later built of made same quiet files shown needed followed in_order recorded = tt
+accepted_answer one parts_one (Some t) None now request program c ended counts between later built of made same quiet files shown needed followed in_order recorded = absurd same
+accepted_answer one parts_one (Some t) (Some s) None request program c ended counts between later built of made same quiet files shown needed followed in_order recorded = files
+accepted_answer one parts_one (Some t) (Some s) (Some u) request program c ended counts between later built of made same quiet files shown needed followed in_order recorded =
     go (subst (λ (k : PerName). FilesShow (IsAcceptedOutcome request c ended.arrivals t) (files_of (Some request) c.parts) ended k later t u) (same_counts counts between quiet)
     (subst (λ (x : Told). FilesShow (IsAcceptedOutcome request c ended.arrivals x) (files_of (Some request) c.parts) ended between later x u) (same_told t s same) files))
     (subst (λ (k : PerName). CountsShow ended.cause c.parts (files_of (Some request) c.parts) k later) (same_counts counts between quiet) shown)
@@ -545,7 +657,10 @@ accepted_answer one parts_one (Some t) (Some s) (Some u) request program c ended
       whole = λ parts are. subst (λ (ps : List CheckedClauses). WholeReads ended.cause (files_of (Some request) ps) counts later t) (parts_are parts are) f.whole;
       reads = f.reads;
       needed = subst (NeedsRecord (Some request) ended) (same_told t s same) needed;
-      followed = follows_told request c ended t program one of made.0 made.1 (subst (FollowsFile request c ended) (same_told t s same) followed);
+      followed = follows_told request c ended t u program one of made.0 made.1
+          (subst (λ (x : Told). FollowsFile request c ended x u) (same_told t s same) followed);
+      in_order = in_order_told one c ended.arrivals t program made.0 ended.cause request (built, of, made.1)
+          (spelled_by request c ended t (subst (ReadInOrder request c ended) (same_told t s same) in_order));
       recorded = writes_told request c ended counts later t u program one built of made.0 made.1
           (subst (λ (k : PerName). RecordFor request c ended k later t u) (same_counts counts between quiet) (subst (λ (x : Told). RecordFor request c ended between later x u) (same_told t s same) recorded));
     }

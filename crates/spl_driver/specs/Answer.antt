@@ -1,5 +1,5 @@
 -- Which answer a request gets, and what each answer means.
-use Rattle.std.specs.Prelude.{◌≡◌, ◌≢◌, ◌-◌, ◌^◌, ◌⊎◌, ◌||◌, min, ℕ, Bool, List, [], ◌∷◌, ◌++◌, codes, map, length, take, false, true, Option, Some, None, ⊤, IfSome, IsSomeAnd, option_and_then, slice_get}
+use Rattle.std.specs.Prelude.{IfSome, ◌≡◌, ◌≢◌, ◌-◌, ◌^◌, ◌⊎◌, ◌||◌, min, ℕ, Bool, List, [], ◌∷◌, ◌++◌, codes, map, length, take, false, true, Option, Some, None, ⊤, IsSomeAnd, option_and_then, slice_get}
 use Rattle.std.specs.List.{All, filter_map}
 use Rattle.std.specs.Option.{option_map, option_map_or}
 use Rattle.arrival_format.specs.ArrivalTexts.{Spells, arrivals_text}
@@ -7,28 +7,31 @@ use Rattle.feed_pour.specs.Counts.{PerName, Rose}
 use Rattle.feed_pour.specs.Contents.{Told}
 use Rattle.spl_value.specs.declared.item.Fault.{Fault}
 use Rattle.spl_value.specs.declared.item.FaultKind.TheVariants as K
+use Rattle.spl_value.specs.declared.item.Item.{Item}
 use Rattle.language_model.specs.declared.checked.CheckedClauses.{CheckedClauses}
 use Rattle.stream_model.specs.declared.record.Arrivals.{Arrivals}
 use Rattle.stream_model.specs.declared.record.Counts.{Counts}
-use Rattle.stream_model.specs.declared.record.SinkCount.{SinkCount}
 use Rattle.language_model.specs.CheckedGraph.{CheckedGraph}
-use Rattle.stream_model.specs.Arrivals.{entries_in, several}
+use Rattle.stream_model.specs.Arrivals.{entries_in, has_several, several}
+use Rattle.stream_model.specs.CheckedMeaning.{graph_of}
 use Rattle.stream_model.specs.Ends.{run_fault}
-use Rattle.stream_model.specs.Meaning.{Graph, Meaning, text}
-use Rattle.stream_model.specs.Operators.{Operator}
+use Rattle.stream_model.specs.Meaning.{Graph, Meaning, lists_at, meaning, text}
+use Rattle.stream_model.specs.Operators.{Operator, connections}
+use Rattle.stream_model.specs.Runs.{AreWhole, IsFirstNotWhole, IsRecordOf, RowsFit, counts_of, rows_at}
+use Rattle.stream_model.specs.parts.Records.{finds_items}
 use Rattle.stream_model.specs.Stages.{out}
-use Rattle.list_engine.specs.Runs.{AreWhole}
 use Rattle.run_report.specs.declared.cause.Cause.{Cause}
 use Rattle.run_report.specs.declared.cause.Cause.TheVariants as C
 use Rattle.language_model.specs.declared.refusal.Refusal.{Refusal}
 use Rattle.command_line.specs.declared.request.Request.{Request}
 use Rattle.command_line.specs.declared.request.Request.TheVariants as R
-use Rattle.check_laws.specs.Files.{is_named, sink_file, sink_files, source_file}
+use Rattle.language_model.specs.Files.{sink_file, sink_files, source_file}
+use Rattle.language_model.specs.Names.{is_named}
 use Rattle.source_rows.specs.Counting.{OnlyRead, OnlyReads, OpeningFailed}
-use Rattle.source_rows.specs.Sources.{ReadsFail}
+use Rattle.source_rows.specs.Sources.{FaultsNameSources, ReadsCounted, ReadsFail}
 use Rattle.spl_driver.specs.Built.{is_built}
-use Rattle.spl_driver.specs.Files.{FilesOf, files_of}
-use Rattle.spl_driver.specs.Outcome.{Report, RequestOutcome, NoRequest, Unreadable, Refused, NotBuilt, Reports, BadArrivals, Runs, IsOutcome, ArePartsIn, fails_within, has_record_fault}
+use Rattle.spl_driver.specs.Files.{FilesOf, files_of, program_of}
+use Rattle.spl_driver.specs.Outcome.{Report, RequestOutcome, NoRequest, Unreadable, Refused, NotBuilt, Reports, BadArrivals, Runs, IsOutcome, IsProgramOf, IsSomeRefusal, ArePartsIn, fails_within, has_record_fault}
 use Rattle.spl_driver.specs.declared.ended.Ended.{Ended}
 
 -- ---- causes
@@ -63,20 +66,6 @@ HoldsText m new op file = new.holds file ≡ Some (sink_text m op)
 abbrev pub HoldsPrefix : Meaning → Told → Told → Operator → List ℕ → Type 0
 HoldsPrefix m old new op file = (new.holds file ≡ old.holds file) ⊎ ((n : ℕ) × (new.holds file ≡ Some (take n (sink_text m op))))
 
--- how many tuples a sink has, where the operator is one
-abbrev pub sink_count : Meaning → Operator → Option SinkCount
-sink_count m op =
-    option_map (λ file. record { op = op.number; tuples = min (length (out op 0 (m.events op.number))) (2 ^ 64 - 1) }) (sink_file op.clauses)
-
--- the counts of a run without replicas: the tuples of each sink, in the order of the operators
-abbrev pub counts_of : Graph → Meaning → Counts
-counts_of g m = record { channels = []; sinks = filter_map (sink_count m) g.ops }
-
--- the record has a list for each operator with several connections, and each is whole in this meaning
-pub record IsRecordOf (g : Graph) (m : Meaning) (arrivals : Arrivals) : Type 0 where
-  pub lists : map (λ l. l.op) arrivals.lists ≡ several g
-  pub whole : AreWhole g m (entries_in arrivals.lists)
-
 -- The run of this graph with this meaning was carried out: each sink's file holds its text, the counts are the meaning's, and the record
 -- is the run's.
 pub record CarriedOut (g : Graph) (m : Meaning) (ended : Ended) (new : Told) : Type 0 where
@@ -107,18 +96,75 @@ abbrev pub Begun : RequestOutcome → Told → Told → Type 0
 Begun (Runs c g m) old new = EachSink (HoldsPrefix m old new) g.ops
 Begun _ old new = SameFiles old new
 
--- what a cause means, by the outcome of the request and the files
-abbrev pub CauseMeans : Cause → (RequestOutcome → Type 0) → Ended → Told → Told → Type 0
-CauseMeans C.Done Is ended old new = ReportsTo Is ended old new ⊎ RunsTo None Is ended new
-CauseMeans (C.Stopped fault) Is ended old new = RunsTo (Some fault) Is ended new
-CauseMeans C.BadWords Is ended old new = Is NoRequest × SameFiles old new
-CauseMeans (C.Refused refusal) Is ended old new = Is (Refused refusal) × SameFiles old new
-CauseMeans C.NotBuilt Is ended old new = Is NotBuilt × SameFiles old new
-CauseMeans (C.BadArrivals op) Is ended old new = ((c : CheckedGraph) × Is (BadArrivals c op)) × SameFiles old new
-CauseMeans (C.ReadFailed name) Is ended old new = SameFiles old new
-CauseMeans (C.OpenFailed name) Is ended old new = (result : RequestOutcome) → Is result → Begun result old new
-CauseMeans (C.WriteFailed name) Is ended old new = (result : RequestOutcome) → Is result → Begun result old new
-CauseMeans C.NoMemory Is ended old new = (result : RequestOutcome) → Is result → Begun result old new
+-- ---- a run, as every shelf shows it
+
+-- a record isn't whole for this operator in the meaning of the graph for some closed rows of its sources; of one that isn't spelled nothing is said
+abbrev pub IsBadFor : CheckedGraph → Option ℕ → Type 0
+IsBadFor c op = IfSome op (λ n.
+    (g : Graph) × (rows : List (List Item)) × (arrivals : Arrivals) × (graph_of c ≡ g) × RowsFit g rows
+    × IsFirstNotWhole g (meaning g (rows_at rows) (entries_in arrivals.lists)) (entries_in arrivals.lists) n)
+
+-- the record in which nothing was taken: a list for each operator with several connections, each empty
+abbrev pub NothingTaken : Graph → Arrivals → Type 0
+NothingTaken g arrivals = arrivals.lists ≡ map (λ n. record { op = n; inputs = [] }) (several g)
+
+-- A record so far: there is a list for each operator with several connections, and each entry finds an item.
+pub record IsRecordSoFar (g : Graph) (m : Meaning) (arrivals : Arrivals) : Type 0 where
+  pub lists : map (λ l. l.op) arrivals.lists ≡ several g
+  pub found : (n : ℕ) (op : Operator) → slice_get g.ops n ≡ Some op → has_several (connections op) ≡ true
+      → finds_items (lists_at m.streams (connections op)) (entries_in arrivals.lists op.number) ≡ true
+
+-- A run of the graph had this meaning: that for closed rows of its sources, which they name in their faults and of which a
+-- read that failed was counted, under a record of which this is known.
+pub record RanUnder (Recorded : Type 0) (c : CheckedGraph) (g : Graph) (m : Meaning) (arrivals : Arrivals) (counts now : PerName) : Type 0 where
+  pub graph : graph_of c ≡ g
+  pub rows : List (List Item)
+  pub fit : RowsFit g rows
+  pub names : FaultsNameSources g rows
+  pub read : ReadsCounted g rows counts now
+  pub is : m ≡ meaning g (rows_at rows) (entries_in arrivals.lists)
+  pub recorded : Recorded
+
+-- under one that is whole in it
+abbrev pub RanTo : CheckedGraph → Graph → Meaning → Arrivals → PerName → PerName → Type 0
+RanTo c g m arrivals counts now = RanUnder (IsRecordOf g m arrivals) c g m arrivals counts now
+
+-- some run of such a program, under a record of which this is known
+abbrev pub RanWith : (Graph → Meaning → Arrivals → Type 0) → (CheckedGraph → Type 0) → Ended → (counts now : PerName) → Type 0
+RanWith Recorded Program ended counts now =
+    (c : CheckedGraph) × (g : Graph) × (m : Meaning) × Program c
+    × RanUnder (Recorded g m ended.arrivals) c g m ended.arrivals counts now
+
+-- under one that is whole in its meaning
+abbrev pub Ran : (CheckedGraph → Type 0) → Ended → PerName → PerName → Type 0
+Ran Program ended counts now = RanWith IsRecordOf Program ended counts now
+
+-- Some run of such a program began, but the file of this name couldn't be created: nothing was taken, and nothing was
+-- counted.
+pub record Uncreated (name : List ℕ) (P : CheckedGraph → Type 0) (ended : Ended) (counts now : PerName) : Type 0 where
+  pub rose : Rose (counts name).creating (now name).creating
+  pub none : ended.counts ≡ uncounted
+  pub untaken : RanWith (λ g m arrivals. NothingTaken g arrivals) P ended counts now
+
+-- which ended with this fault, or none, and with its counts
+abbrev pub RanAs : Option Fault → (CheckedGraph → Type 0) → Ended → PerName → PerName → Type 0
+RanAs fault Program ended counts now =
+    (c : CheckedGraph) × (g : Graph) × (m : Meaning) × Program c × RanTo c g m ended.arrivals counts now × (run_fault g m ≡ fault) × (ended.counts ≡ counts_of g m)
+
+-- no run began: nothing was counted, and no input recorded
+pub record NothingRan (ended : Ended) : Type 0 where
+  pub counts : ended.counts ≡ uncounted
+  pub lists : ended.arrivals.lists ≡ []
+
+-- ---- a replay that writes nothing
+
+-- each file holds what it held, or nothing
+abbrev pub OnlyEmptied : Told → Told → Type 0
+OnlyEmptied old new = (n : List ℕ) → (new.holds n ≡ old.holds n) ⊎ (new.holds n ≡ Some [])
+
+-- no file changed; or files were emptied and a later one couldn't be, and nothing was taken
+abbrev pub WroteNothing : CheckedGraph → Ended → Told → Told → Type 0
+WroteNothing c ended old new = SameFiles old new ⊎ (OnlyEmptied old new × NothingTaken (graph_of c) ended.arrivals)
 
 -- ---- which device failed
 
@@ -152,25 +198,6 @@ pub record WritingFailed (files : FilesOf) (name : List ℕ) (old new : PerName)
   pub others : (n : List ℕ) → is_named files.created n ≡ false → OnlyRead (old n) (new n)
   pub made : (n : List ℕ) → ((new n).creating ≡ (old n).creating) × ((new n).opening ≡ (old n).opening)
 
--- what the counts show of each cause
-abbrev pub DevicesShow : Cause → FilesOf → PerName → PerName → Type 0
-DevicesShow C.Done files old new = OnlyReads files.rows old new
-DevicesShow (C.Stopped fault) files old new = OnlyReads files.rows old new
-DevicesShow (C.BadArrivals op) files old new = OnlyReads files.rows old new
-DevicesShow (C.OpenFailed name) files old new = OpeningFailed files.opened name old new ⊎ CreatingFailed files name old new
-DevicesShow (C.ReadFailed name) files old new = ReadingFailed files name old new
-DevicesShow (C.WriteFailed name) files old new = WritingFailed files name old new
-DevicesShow C.NoMemory files old new = ⊤
-DevicesShow _ files old new = NoCountChanged old new
-
--- ---- a run that stops at a read that failed
-
--- where a fault is a read that failed, the operator that it names is a source, and the count of reading of its file rose
-abbrev pub StoppedBy : Cause → List CheckedClauses → PerName → PerName → Type 0
-StoppedBy (C.Stopped fault) parts old new =
-    fault.kind ≡ K.ReadFailed → IsSomeAnd (option_and_then source_file (slice_get parts fault.op)) (λ n. Rose (old n).reading (new n).reading)
-StoppedBy _ parts old new = ⊤
-
 -- ---- and what the files hold then
 
 -- A file that is created couldn't be: the request runs a graph, those before it are empty, and the others as they were.
@@ -195,15 +222,178 @@ WroteOthers Is counts now ended new =
 abbrev pub TellingFailed : List ℕ → Type 0 → List (List ℕ) → PerName → PerName → Type 0
 TellingFailed name TextFailed rows old new = (name ≡ codes "-") × TextFailed × OnlyReads rows old new
 
--- What the counts and the files show of each cause: what was created, where a file couldn't be; what was written, where one couldn't be; and
--- else what the counts show.
-abbrev pub DevicesMean : Cause → FilesOf → PerName → PerName → Type 0 → (RequestOutcome → Type 0) → Ended → Told → Told → Type 0
-DevicesMean (C.OpenFailed name) files counts now TextFailed Is ended old new =
-    (OpeningFailed files.opened name counts now × SameFiles old new) ⊎ StoppedCreating Is files name counts now old new
-DevicesMean (C.WriteFailed name) files counts now TextFailed Is ended old new =
-    (WritingFailed files name counts now × WroteOthers Is counts now ended new)
-    ⊎ (TellingFailed name TextFailed files.rows counts now × (ReportsTo Is ended old new ⊎ ((fault : Option Fault) × RunsTo fault Is ended new)))
-DevicesMean cause files counts now TextFailed Is ended old new = DevicesShow cause files counts now
+-- ---- which refusal comes first
+
+-- the program isn't refused
+abbrev pub IsUnrefused : (RequestOutcome → Type 0) → Type 0
+IsUnrefused Is = (refusal : Refusal) → Is (Refused refusal) → ⊥
+
+-- the file of the record spells one
+abbrev pub IsSpelled : (RequestOutcome → Type 0) → Type 0
+IsSpelled Is = (c : CheckedGraph) → Is (BadArrivals c None) → ⊥
+
+-- The file of this name couldn't be opened, created or read. If it isn't that of the program, this was read before, and
+-- isn't refused; if it isn't that of a replay's record either, this was read too, and spells one.
+abbrev pub ComesBehind : Option Request → List ℕ → (RequestOutcome → Type 0) → Type 0
+ComesBehind None name Is = ⊤
+ComesBehind (Some (R.Replay program file)) name Is = name ≢ program → IsUnrefused Is × (name ≢ file → IsSpelled Is)
+ComesBehind (Some request) name Is =
+    (program : List ℕ) → program_of request ≡ Some program → name ≢ program → IsUnrefused Is
+
+-- ---- the record that a run writes
+
+-- Some file couldn't be written, the first of which has this name. That of the record is empty where it is a sink's; it holds a prefix of its
+-- text, and the sinks' files hold theirs, where it is this one; and its text, where the name is that of standard output.
+pub data RecordUnwritten (name : List ℕ) (parts : List CheckedClauses) (file text : List ℕ) (counts now : PerName) (TextFailed Sinks : Type 0) (new : Told) : Type 0 where
+  of_sink : is_named (sink_files parts) name ≡ true → Rose (counts name).writing (now name).writing → new.holds file ≡ Some []
+      → RecordUnwritten name parts file text counts now TextFailed Sinks new
+  of_record : name ≡ file → Rose (counts file).writing (now file).writing → Sinks → (n : ℕ) → new.holds file ≡ Some (take n text)
+      → RecordUnwritten name parts file text counts now TextFailed Sinks new
+  of_telling : name ≡ codes "-" → TextFailed → ((n : List ℕ) → (now n).writing ≡ (counts n).writing) → Sinks → new.holds file ≡ Some text
+      → RecordUnwritten name parts file text counts now TextFailed Sinks new
+
+-- ---- the causes
+
+-- the request asks for what is told of a program that isn't run
+abbrev pub is_report : Option Request → Bool
+is_report (Some (R.Check program)) = true
+is_report (Some (R.Plan program)) = true
+is_report _ = false
+
+-- What is said of a cause: the exit status; what it means, by the outcome of the request and the files; why it comes,
+-- and of which requests; which refusals it comes behind; what the counts of faults show, and what the files do with them;
+-- a read that failed; what ran; which record a replay returns; and what the file holds into which a run writes its
+-- record.
+pub record CauseRows : Type 1 where
+  pub status : ℕ
+  pub means : (RequestOutcome → Type 0) → Ended → Told → Told → Type 0
+  pub reason : Option Request → Type 0
+  pub may_be : Option Request → Type 0
+  pub in_order : Option Request → (RequestOutcome → Type 0) → Type 0
+  pub shows : FilesOf → PerName → PerName → Type 0
+  pub device : FilesOf → PerName → PerName → Type 0 → (RequestOutcome → Type 0) → Ended → Told → Told → Type 0
+  pub stopped : List CheckedClauses → PerName → PerName → Type 0
+  pub ran : (CheckedGraph → Type 0) → Type 0 → Ended → PerName → PerName → Type 0
+  pub follows : (Spelled Unwritten : Type 0) → Type 0
+  pub holds : List CheckedClauses → (file text : List ℕ) → PerName → PerName → (TextFailed Sinks : Type 0) → Told → Told
+      → Type 0
+
+-- nothing was done: no file changed, no more was counted than this, and nothing ran
+abbrev pub undone : ℕ → (FilesOf → PerName → PerName → Type 0) → CauseRows
+undone status shows = record {
+  status = status;
+  means = λ Is ended old new. SameFiles old new;
+  reason = λ request. ⊤;
+  may_be = λ request. ⊤;
+  in_order = λ request Is. ⊤;
+  shows = shows;
+  device = λ files counts now TextFailed Is ended old new. shows files counts now;
+  stopped = λ parts old new. ⊤;
+  ran = λ Program Alone ended counts now. NothingRan ended;
+  follows = λ Spelled Unwritten. Unwritten;
+  holds = λ parts file text counts now TextFailed Sinks old new. new.holds file ≡ old.holds file;
+}
+
+-- the rows of each cause
+abbrev pub rows_of : Cause → CauseRows
+rows_of C.Done = record (undone 0 (λ files. OnlyReads files.rows)) {
+  means = λ Is ended old new. ReportsTo Is ended old new ⊎ RunsTo None Is ended new;
+  ran = λ Program Alone ended counts now. (Alone × NothingRan ended) ⊎ RanAs None Program ended counts now;
+  follows = λ Spelled Unwritten. Spelled;
+  holds = λ parts file text counts now TextFailed Sinks old new. Sinks × (new.holds file ≡ Some text);
+}
+rows_of (C.Stopped fault) = record (undone 3 (λ files. OnlyReads files.rows)) {
+  means = λ Is ended old new. RunsTo (Some fault) Is ended new;
+  may_be = λ request. is_report request ≡ false;
+  stopped = λ parts old new. fault.kind ≡ K.ReadFailed
+      → IsSomeAnd (option_and_then source_file (slice_get parts fault.op)) (λ n. Rose (old n).reading (new n).reading);
+  ran = λ Program Alone ended counts now. RanAs (Some fault) Program ended counts now;
+  follows = λ Spelled Unwritten. Spelled;
+  holds = λ parts file text counts now TextFailed Sinks old new. Sinks × (new.holds file ≡ Some text);
+}
+rows_of C.BadWords =
+    record (undone 1 (λ files. NoCountChanged)) { means = λ Is ended old new. Is NoRequest × SameFiles old new }
+rows_of (C.Refused refusal) = record (undone 2 (λ files. NoCountChanged)) {
+  means = λ Is ended old new. Is (Refused refusal) × SameFiles old new;
+  reason = λ request. IsSomeAnd request (λ r. IsSomeRefusal r refusal);
+}
+rows_of C.NotBuilt = record (undone 13 (λ files. NoCountChanged)) {
+  means = λ Is ended old new. Is NotBuilt × SameFiles old new;
+  reason = λ request. IsSomeAnd request (λ r. is_built r ≡ false);
+  may_be = λ request. is_report request ≡ false;
+}
+rows_of (C.BadArrivals op) = record (undone 7 (λ files. OnlyReads files.rows)) {
+  means = λ Is ended old new. ((c : CheckedGraph) × Is (BadArrivals c op)) × SameFiles old new;
+  reason = λ request. (c : CheckedGraph) × IsProgramOf request c × IsBadFor c op;
+  may_be = λ request. (program file : List ℕ) × (request ≡ Some (R.Replay program file));
+}
+rows_of (C.OpenFailed name) =
+    record (undone 4 (λ files old new. OpeningFailed files.opened name old new ⊎ CreatingFailed files name old new)) {
+      means = λ Is ended old new. (result : RequestOutcome) → Is result → Begun result old new;
+      in_order = λ request Is. ComesBehind request name Is;
+      device = λ files counts now TextFailed Is ended old new.
+          (OpeningFailed files.opened name counts now × SameFiles old new)
+          ⊎ StoppedCreating Is files name counts now old new;
+      ran = λ Program Alone ended counts now.
+          (NothingRan ended × Rose (counts name).opening (now name).opening) ⊎ Uncreated name Program ended counts now;
+    }
+rows_of (C.ReadFailed name) =
+    record (undone 5 (λ files. ReadingFailed files name)) { in_order = λ request Is. ComesBehind request name Is }
+rows_of (C.WriteFailed name) = record (undone 6 (λ files. WritingFailed files name)) {
+  means = λ Is ended old new. (result : RequestOutcome) → Is result → Begun result old new;
+  device = λ files counts now TextFailed Is ended old new.
+      (WritingFailed files name counts now × WroteOthers Is counts now ended new)
+      ⊎ (TellingFailed name TextFailed files.rows counts now
+      × (ReportsTo Is ended old new ⊎ ((fault : Option Fault) × RunsTo fault Is ended new)));
+  ran = λ Program Alone ended counts now. (Alone × NothingRan ended) ⊎ RanWith IsRecordOf Program ended counts now;
+  follows = λ Spelled Unwritten. Spelled;
+  holds = λ parts file text counts now TextFailed Sinks old new.
+      RecordUnwritten name parts file text counts now TextFailed Sinks new;
+}
+rows_of C.NoMemory = record (undone 9 (λ files old new. ⊤)) {
+  means = λ Is ended old new. (result : RequestOutcome) → Is result → Begun result old new;
+  ran = λ Program Alone ended counts now. (ended.arrivals.lists ≡ []) ⊎ RanWith IsRecordSoFar Program ended counts now;
+  follows = λ Spelled Unwritten. Spelled ⊎ Unwritten;
+  holds = λ parts file text counts now TextFailed Sinks old new. (new.holds file ≡ old.holds file)
+      ⊎ ((new.holds file ≡ Some []) ⊎ (Sinks × ((n : ℕ) × (new.holds file ≡ Some (take n text)))));
+}
+
+abbrev pub status_of : Cause → ℕ
+status_of cause = (rows_of cause).status
+
+abbrev pub CauseMeans : Cause → (RequestOutcome → Type 0) → Ended → Told → Told → Type 0
+CauseMeans cause = (rows_of cause).means
+
+abbrev pub IsReason : Cause → Option Request → Type 0
+IsReason cause = (rows_of cause).reason
+
+abbrev pub MayBe : Option Request → Cause → Type 0
+MayBe request cause = (rows_of cause).may_be request
+
+abbrev pub ComesInOrder : Cause → Option Request → (RequestOutcome → Type 0) → Type 0
+ComesInOrder cause = (rows_of cause).in_order
+
+abbrev pub DevicesShow : Cause → FilesOf → PerName → PerName → Type 0
+DevicesShow cause = (rows_of cause).shows
+
+abbrev pub DevicesMean : Cause → FilesOf → PerName → PerName → Type 0 → (RequestOutcome → Type 0) → Ended → Told → Told
+    → Type 0
+DevicesMean cause = (rows_of cause).device
+
+abbrev pub StoppedBy : Cause → List CheckedClauses → PerName → PerName → Type 0
+StoppedBy cause = (rows_of cause).stopped
+
+abbrev pub RunShown : Cause → (CheckedGraph → Type 0) → Type 0 → Ended → PerName → PerName → Type 0
+RunShown cause = (rows_of cause).ran
+
+abbrev pub FollowsBy : Cause → (Spelled Unwritten : Type 0) → Type 0
+FollowsBy cause = (rows_of cause).follows
+
+abbrev pub RecordHolds : Cause → List CheckedClauses → (file text : List ℕ) → PerName → PerName
+    → (TextFailed Sinks : Type 0) → Told → Told → Type 0
+RecordHolds cause = (rows_of cause).holds
+
+-- ---- what else an answer says
 
 -- where the count of reading changed of a file that is read as a whole, its reader fails within its bound, and the answer names it, or memory ran out
 abbrev pub WholeReads : Cause → FilesOf → PerName → PerName → Told → Type 0
@@ -221,41 +411,19 @@ NeedsRecord (Some (R.Replay program file)) ended old =
     has_record_fault (old.script file) ≡ true → ((refusal : Refusal) × (ended.cause ≡ C.Refused refusal)) ⊎ IsUnread (program ∷ file ∷ []) ended.cause
 NeedsRecord _ ended old = ⊤
 
--- a replay that was carried out, or of which what it gave couldn't be written, returns the record that its file spells for its program
-abbrev pub FollowsRecord : Option Request → (RequestOutcome → Type 0) → Ended → Told → Type 0
-FollowsRecord (Some (R.Replay program file)) Is ended old =
-    IsRun ended.cause ⊎ ((name : List ℕ) × (ended.cause ≡ C.WriteFailed name))
-    → (c : CheckedGraph) (g : Graph) (m : Meaning) → Is (Runs c g m) → Spells c (old.script file).bytes ended.arrivals
-FollowsRecord _ Is ended old = ⊤
-
--- ---- the record that a run writes
-
--- Some file couldn't be written, the first of which has this name. That of the record is empty where it is a sink's; it holds a prefix of its
--- text, and the sinks' files hold theirs, where it is this one; and its text, where the name is that of standard output.
-pub data RecordUnwritten (name : List ℕ) (parts : List CheckedClauses) (file text : List ℕ) (counts now : PerName) (TextFailed Sinks : Type 0) (new : Told) : Type 0 where
-  of_sink : is_named (sink_files parts) name ≡ true → Rose (counts name).writing (now name).writing → new.holds file ≡ Some []
-      → RecordUnwritten name parts file text counts now TextFailed Sinks new
-  of_record : name ≡ file → Rose (counts file).writing (now file).writing → Sinks → (n : ℕ) → new.holds file ≡ Some (take n text)
-      → RecordUnwritten name parts file text counts now TextFailed Sinks new
-  of_telling : name ≡ codes "-" → TextFailed → ((n : List ℕ) → (now n).writing ≡ (counts n).writing) → Sinks → new.holds file ≡ Some text
-      → RecordUnwritten name parts file text counts now TextFailed Sinks new
-
--- What this file holds, into which a run writes its record, by how the run ends: the record's text, where the run was carried out, beside the texts
--- of the sinks; where a file couldn't be written, as above; where memory ran out, what it held, or nothing, or a prefix of the text beside
--- those of the sinks; and else what it held.
-abbrev pub RecordHolds : Cause → List CheckedClauses → List ℕ → List ℕ → PerName → PerName → Type 0 → Type 0 → Told → Told → Type 0
-RecordHolds C.Done parts file text counts now TextFailed Sinks old new = Sinks × (new.holds file ≡ Some text)
-RecordHolds (C.Stopped fault) parts file text counts now TextFailed Sinks old new = Sinks × (new.holds file ≡ Some text)
-RecordHolds (C.WriteFailed name) parts file text counts now TextFailed Sinks old new = RecordUnwritten name parts file text counts now TextFailed Sinks new
-RecordHolds C.NoMemory parts file text counts now TextFailed Sinks old new =
-    (new.holds file ≡ old.holds file) ⊎ ((new.holds file ≡ Some []) ⊎ (Sinks × ((n : ℕ) × (new.holds file ≡ Some (take n text)))))
-RecordHolds _ parts file text counts now TextFailed Sinks old new = new.holds file ≡ old.holds file
+-- a replay returns the record that its file spells for its program
+abbrev pub FollowsRecord : Option Request → (RequestOutcome → Type 0) → Ended → Told → Told → Type 0
+FollowsRecord (Some (R.Replay program file)) Is ended old new =
+    (c : CheckedGraph) (g : Graph) (m : Meaning) → Is (Runs c g m)
+    → (rows_of ended.cause).follows (Spells c (old.script file).bytes ended.arrivals) (WroteNothing c ended old new)
+FollowsRecord _ Is ended old new = ⊤
 
 -- a run that is asked for its record writes the one that it returns
 abbrev pub WritesRecord : Option Request → (RequestOutcome → Type 0) → Ended → PerName → PerName → Type 0 → Told → Told → Type 0
 WritesRecord (Some (R.Run program options)) Is ended counts now TextFailed old new =
     (file : List ℕ) → options.arrivals ≡ Some file → (c : CheckedGraph) (g : Graph) (m : Meaning) → Is (Runs c g m)
-    → RecordHolds ended.cause c.parts file (arrivals_text c ended.arrivals) counts now TextFailed (EachSink (HoldsText m new) g.ops) old new
+    → (rows_of ended.cause).holds c.parts file (arrivals_text c ended.arrivals) counts now TextFailed
+    (EachSink (HoldsText m new) g.ops) old new
 WritesRecord _ Is ended counts now TextFailed old new = ⊤
 
 -- a fact of the files of the request, by the operators of its program
@@ -264,46 +432,19 @@ ForFiles told request P = (parts : List CheckedClauses) → ArePartsIn told requ
 
 -- the answer to a request at a shelf that tells its files, where the count of the text's pour rose or not
 pub record Answered (request : Option Request) (ended : Ended) (counts now : PerName) (TextFailed : Type 0) (old new : Told) : Type 0 where
-  pub means : CauseMeans ended.cause (IsOutcome old ended.arrivals request) ended old new
+  pub means : (rows_of ended.cause).means (IsOutcome old ended.arrivals request) ended old new
   pub others : ForFiles old request (λ files. (n : List ℕ) → is_named files.created n ≡ false → new.holds n ≡ old.holds n)
   pub scripts : ForFiles old request (λ files. (n : List ℕ) → is_named files.created n ≡ false → new.script n ≡ old.script n)
   pub counted : ForFiles old request (λ files. (n : List ℕ) → (is_named files.opened n || is_named files.created n) ≡ false → now n ≡ counts n)
-  pub device : ForFiles old request (λ files. DevicesMean ended.cause files counts now TextFailed (IsOutcome old ended.arrivals request) ended old new)
-  pub stopped : (parts : List CheckedClauses) → ArePartsIn old request parts → StoppedBy ended.cause parts counts now
+  pub device : ForFiles old request (λ files.
+      (rows_of ended.cause).device files counts now TextFailed (IsOutcome old ended.arrivals request) ended old new)
+  pub stopped : (parts : List CheckedClauses) → ArePartsIn old request parts → (rows_of ended.cause).stopped parts counts now
   pub whole : ForFiles old request (λ files. WholeReads ended.cause files counts now old)
   pub reads : ReadsFail counts now old
   pub needed : NeedsRecord request ended old
-  pub followed : FollowsRecord request (IsOutcome old ended.arrivals request) ended old
+  pub followed : FollowsRecord request (IsOutcome old ended.arrivals request) ended old new
+  pub in_order : (rows_of ended.cause).in_order request (IsOutcome old ended.arrivals request)
   pub recorded : WritesRecord request (IsOutcome old ended.arrivals request) ended counts now TextFailed old new
-
--- ---- what the request alone shows
-
--- the request asks for what is told of a program that isn't run
-abbrev pub is_report : Option Request → Bool
-is_report (Some (R.Check program)) = true
-is_report (Some (R.Plan program)) = true
-is_report _ = false
-
--- such a request ends with no fault, and is built; and a replay alone has a record that may be bad
-abbrev pub MayBe : Option Request → Cause → Type 0
-MayBe request (C.BadArrivals op) = (program file : List ℕ) × (request ≡ Some (R.Replay program file))
-MayBe request (C.Stopped fault) = is_report request ≡ false
-MayBe request C.NotBuilt = is_report request ≡ false
-MayBe request _ = ⊤
-
--- ---- statuses
-
-abbrev pub status_of : Cause → ℕ
-status_of C.Done = 0
-status_of C.BadWords = 1
-status_of (C.Refused refusal) = 2
-status_of (C.Stopped fault) = 3
-status_of (C.OpenFailed name) = 4
-status_of (C.ReadFailed name) = 5
-status_of (C.WriteFailed name) = 6
-status_of (C.BadArrivals op) = 7
-status_of C.NoMemory = 9
-status_of C.NotBuilt = 13
 
 -- ---- completeness
 

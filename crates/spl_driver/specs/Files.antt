@@ -9,7 +9,7 @@ use Rattle.language_model.specs.CheckedGraph.{CheckedGraph}
 use Rattle.command_line.specs.declared.request.Request.{Request}
 use Rattle.command_line.specs.declared.request.Request.TheVariants as R
 use Rattle.command_line.specs.Request.{file_names}
-use Rattle.check_laws.specs.Files.{source_files, sink_files}
+use Rattle.language_model.specs.Files.{source_files, sink_files}
 
 -- the file of a request's program, which is the first of the files of its command line
 abbrev pub program_of : Request → Option (List ℕ)

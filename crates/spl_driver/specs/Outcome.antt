@@ -12,8 +12,7 @@ use Rattle.stream_model.specs.Arrivals.{entries_in}
 use Rattle.stream_model.specs.CheckedMeaning.{graph_of}
 use Rattle.stream_model.specs.Meaning.{Graph, Meaning, meaning}
 use Rattle.arrival_format.specs.ArrivalTexts.{Spells}
-use Rattle.list_engine.specs.RunOrders.{IsFirstNotWhole}
-use Rattle.list_engine.specs.Runs.{AreWhole}
+use Rattle.stream_model.specs.Runs.{IsFirstNotWhole, AreWhole}
 use Rattle.source_rows.specs.Sources.{is_failed, rows_told}
 use Rattle.command_line.specs.declared.request.Request.{Request}
 use Rattle.command_line.specs.declared.request.Request.TheVariants as R

@@ -7,13 +7,14 @@ use Rattle.stream_model.specs.declared.record.Arrivals.{Arrivals}
 use Rattle.language_model.specs.CheckedGraph.{CheckedGraph}
 use Rattle.stream_model.specs.Meaning.{Graph, Meaning}
 use Rattle.arrival_format.specs.ArrivalTexts.{arrivals_text}
-use Rattle.check_laws.specs.Files.{is_named}
+use Rattle.language_model.specs.Names.{is_named}
 use Rattle.command_line.specs.declared.request.Request.{Request}
 use Rattle.command_line.specs.declared.request.Request.TheVariants as R
 use Rattle.command_line.specs.declared.request.RunOptions.{RunOptions}
 use Rattle.spl_driver.specs.Files.{opens}
 use Rattle.spl_driver.specs.Outcome.{Runs, IsOutcome, ArePartsIn, has_record_fault}
-use Rattle.spl_driver.specs.Answer.{Answered, EachSink, IsRecordOf, IsRun}
+use Rattle.spl_driver.specs.Answer.{Answered, EachSink, IsRun}
+use Rattle.stream_model.specs.Runs.{IsRecordOf}
 use Rattle.spl_driver.specs.declared.ended.Ended.{Ended}
 
 -- the files that a request opens are read as they were

@@ -16,7 +16,8 @@ use Rattle.run_report.specs.PlanTexts.{plan_text}
 use Rattle.run_report.specs.Texts.{status_text, check_text}
 use Rattle.command_line.specs.declared.request.Request.{Request}
 use Rattle.command_line.specs.declared.request.Request.TheVariants as R
-use Rattle.spl_driver.specs.Answer.{cause_of, counts_of}
+use Rattle.spl_driver.specs.Answer.{cause_of}
+use Rattle.stream_model.specs.Runs.{counts_of}
 use Rattle.spl_driver.specs.Outcome.{Report, OfSize, OfPlan, RequestOutcome, Reports, BadArrivals, Runs, IsOutcome, IsProgramOf}
 use Rattle.spl_driver.specs.Shown.{IsBadFor, TextShown, RanTo, ShownBy}
 
@@ -80,4 +81,8 @@ Said (C.WriteFailed name) request Is counts later (Some old) now Failed =
     (ShownBy (C.WriteFailed name) request counts later × PouredText (status_text None (C.WriteFailed name)) old now Failed)
     ⊎ (TextShown name request counts later Failed
     × ((cause : Cause) × (text : List ℕ) × IsTextOf (wants_counts request) Is cause text × (n : ℕ) × (now ≡ Some (old ++ take n text))))
-Said cause request Is counts later (Some old) now Failed = PouredText (status_text None cause) old now Failed
+Said C.BadWords request Is counts later (Some old) now Failed = PouredText (status_text None C.BadWords) old now Failed
+Said (C.Refused refusal) request Is counts later (Some old) now Failed = PouredText (status_text None (C.Refused refusal)) old now Failed
+Said C.NotBuilt request Is counts later (Some old) now Failed = PouredText (status_text None C.NotBuilt) old now Failed
+Said (C.OpenFailed name) request Is counts later (Some old) now Failed = PouredText (status_text None (C.OpenFailed name)) old now Failed
+Said (C.ReadFailed name) request Is counts later (Some old) now Failed = PouredText (status_text None (C.ReadFailed name)) old now Failed

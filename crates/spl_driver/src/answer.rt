@@ -3,7 +3,7 @@ ghost use Rattle.std.specs.Prelude.{◌≡◌, ◌<◌, ◌-◌, ◌^◌, ℕ, L
 ghost use Rattle.feed_pour.specs.Contents.{WhereTold};
 ghost use Rattle.run_report.specs.Texts.{status_text};
 ghost use Rattle.command_line.specs.Request.{file_names};
-ghost use Rattle.check_laws.specs.Files.{OwnFiles};
+ghost use Rattle.language_model.specs.Files.{OwnFiles};
 ghost use Rattle.spl_driver.specs.Answer.{MayBe, NeedsRecord};
 ghost use Rattle.spl_driver.specs.Shown.{NothingRan};
 ghost use Rattle.spl_driver.specs.Built.{is_built};
@@ -11,7 +11,7 @@ ghost use Rattle.spl_driver.specs.Files.{files_of, program_of};
 ghost use Rattle.spl_driver.specs.Outcome.{OfPlan, OfSize};
 ghost use Rattle.spl_driver.specs.Texts.{IsReportText, wants_counts};
 ghost use Rattle.spl_driver.specs.steps.Telling.{IsText};
-ghost use Rattle.spl_driver.specs.steps.Steps.{AnswersRequest, CountsShow, FilesShow, FollowsFile, IsAcceptedOutcome, IsToldAcceptedOutcome, RanAccepted, ReasonOf, RecordFor, Replays};
+ghost use Rattle.spl_driver.specs.steps.Steps.{AnswersRequest, CountsShow, FilesShow, FollowsFile, IsAcceptedOutcome, IsToldAcceptedOutcome, RanAccepted, ReadInOrder, ReasonOf, RecordFor, Replays};
 
 use crate::compiled::{Compiled, compile_file};
 use crate::ended::{Ended, open_failed, read_failed, uncounted_end};
@@ -129,7 +129,9 @@ fn answer_accepted<H: Shelf>(
         (H.counts shelf.old) (H.counts shelf.new))) }
     ensures kinds { MayBe (Some request.now) result.ended.cause }
     ensures needed { IfSome (H.told shelf.old) (NeedsRecord (Some request.now) result.ended) }
-    ensures followed { IfSome (H.told shelf.old) (FollowsFile request.now accepted.now result.ended) }
+    ensures followed { WhereTold (H.told shelf.old) (H.told shelf.new)
+        (FollowsFile request.now accepted.now result.ended) }
+    ensures in_order { IfSome (H.told shelf.old) (ReadInOrder request.now accepted.now result.ended) }
     ensures recorded { WhereTold (H.told shelf.old) (H.told shelf.new)
         (RecordFor request.now accepted.now result.ended (H.counts shelf.old) (H.counts shelf.new)) }
     ensures reason { ReasonOf result.ended.cause accepted.now }

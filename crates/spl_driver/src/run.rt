@@ -1,12 +1,12 @@
 //! A run of a checked graph, from its sources to its sinks.
-ghost use Rattle.std.specs.Prelude.{◌≡◌, ◌<◌, ◌-◌, ◌^◌, true, ℕ, List, IfOk};
+ghost use Rattle.std.specs.Prelude.{◌≡◌, ◌<◌, ◌-◌, ◌^◌, true, ℕ, List, IfOk, map};
 ghost use Rattle.feed_pour.specs.Contents.{WhereTold};
-ghost use Rattle.check_laws.specs.Files.{OwnFiles};
+ghost use Rattle.language_model.specs.Files.{OwnFiles};
 ghost use Rattle.file_adapters.specs.Sinks.{names_of};
-ghost use Rattle.spl_driver.specs.Answer.{cause_of};
+ghost use Rattle.spl_driver.specs.Answer.{cause_of, uncounted};
 ghost use Rattle.spl_driver.specs.Texts.{run_text};
 ghost use Rattle.spl_driver.specs.steps.Telling.{IsText};
-ghost use Rattle.spl_driver.specs.steps.Steps.{CountsShow, EndsAs, EndsRun, FilesShow, FollowsOrder, IsNamedBy, IsOrderOf, IsRunOf, MayEndIn, RanGraph, ReasonOf, RecordOf, RunComes, TellsRun, counts_from, run_files};
+ghost use Rattle.spl_driver.specs.steps.Steps.{CountsShow, EndsAs, EndsRun, FilesShow, FollowsOrder, IsNamedBy, IsOrderOf, IsRunOf, IsUntaken, MayEndIn, RanGraph, ReasonOf, RecordOf, RunComes, TellsRun, counts_from, run_files, untaken};
 ghost use Rattle.run_report.specs.Texts.{status_text};
 
 use crate::answer::{Answer, bad_arrivals, plain_answer};
@@ -20,7 +20,8 @@ use list_engine::{Order, Run, engine_law};
 use run_report::{Cause, counts_text, status_text};
 use spl_value::{Bytes, Fault, Items, Name, NoMemory};
 use std::alloc::Global;
-use stream_model::{Arrivals, Counts};
+use std::mem::replace;
+use stream_model::{ArrivalList, Arrivals, Counts};
 
 // How a run ends that has this fault, or none.
 fn cause(fault: Option<Fault>) -> Cause
@@ -37,11 +38,32 @@ fn unfinished(alloc: Global, cause: Cause, arrivals: Arrivals) -> Answer
     ensures cause { result.ended.cause ≡ cause }
     ensures text { IfOk result.text (λ text. text ≡ status_text None cause) }
     ensures recorded { result.ended.arrivals ≡ arrivals }
+    ensures counts { result.ended.counts ≡ uncounted }
 {
     let text = status_text(alloc, None, &cause);
     Answer {
         ended: uncounted_after(alloc, cause, arrivals),
         text,
+    }
+}
+
+// Empties each list of a record.
+fn empty_lists(lists: &mut [ArrivalList])
+    ensures { lists.new ≡ map untaken lists.old }
+{
+    for list in lists.iter_mut() {
+        list.inputs.clear();
+    }
+}
+
+// The record of which nothing was taken. It takes no memory.
+fn untaken(alloc: Global, mut arrivals: Arrivals) -> Arrivals
+    ensures { IsUntaken arrivals result }
+{
+    let mut lists = replace(&mut arrivals.lists, Items::new(alloc)).into_vec();
+    empty_lists(&mut lists);
+    Arrivals {
+        lists: Items::from_vec(lists),
     }
 }
 
@@ -113,7 +135,10 @@ fn ended_run(
         arrivals result }
 {
     match sunk {
-        Sunk::NotCreated(place) => plain_answer(alloc, open_failed(alloc, name_at(files, *place))),
+        Sunk::NotCreated(place) => {
+            let cause = open_failed(alloc, name_at(files, *place));
+            unfinished(alloc, cause, untaken(alloc, arrivals))
+        }
         Sunk::NotWritten(place) => {
             unfinished(alloc, write_failed(alloc, name_at(files, *place)), arrivals)
         }
@@ -145,7 +170,8 @@ pub fn run<H: Shelf>(
     ensures text { IfOk result.text (IsText counted result.ended.cause
         (RunComes checked.now order.now result.ended.arrivals (H.told shelf.old) (H.counts shelf.old) (H.counts shelf.new))) }
     ensures kinds { MayEndIn order.now result.ended.cause }
-    ensures followed { FollowsOrder order.now result.ended }
+    ensures followed { WhereTold (H.told shelf.old) (H.told shelf.new)
+        (FollowsOrder order.now checked.now result.ended) }
     ensures reason { ReasonOf result.ended.cause checked.now }
     ensures ran { RanGraph result.ended.cause checked.now result.ended (H.counts shelf.old) (H.counts shelf.new) }
     ensures lent { H.lent shelf.old < 2 ^ 64 - 257 → H.lent shelf.new ≡ H.lent shelf.old }

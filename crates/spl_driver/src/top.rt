@@ -4,8 +4,8 @@ ghost use Rattle.feed_pour.specs.Counts.{Rose};
 ghost use Rattle.feed_pour.specs.Contents.{WhereTold};
 ghost use Rattle.command_line.specs.Request.{request_of};
 ghost use Rattle.source_rows.specs.Counting.{OnlyRead};
-ghost use Rattle.spl_driver.specs.Answer.{Answered, ByWords, MayBe, status_of, IsComplete, IsRun};
-ghost use Rattle.spl_driver.specs.Shown.{IsReason, RanShown, Shown};
+ghost use Rattle.spl_driver.specs.Answer.{Answered, ByWords, IsComplete, IsRun, rows_of};
+ghost use Rattle.spl_driver.specs.Shown.{RanShown, Shown};
 ghost use Rattle.spl_driver.specs.Texts.{IsToldOutcome, Said};
 ghost use Rattle.spl_driver.specs.steps.Telling.{ToldAs, PoursText};
 ghost use Rattle.spl_driver.specs.steps.Steps.{AnswersRequest};
@@ -84,7 +84,7 @@ pub fn spl<W: Threads + Wait + Sync, H: Shelf, S: Starter, G: Gate, P: Pour>(
     _gate: &G,
     out: &mut P,
 ) -> Ended
-    ensures status { result.status ≡ status_of result.cause }
+    ensures status { result.status ≡ (rows_of result.cause).status }
 
     // What each answer means, what the files hold after it, and which device failed, where the shelf tells its files.
     ensures answered { WhereTold (H.told shelf.old) (H.told shelf.new)
@@ -108,7 +108,7 @@ pub fn spl<W: Threads + Wait + Sync, H: Shelf, S: Starter, G: Gate, P: Pour>(
     ensures lent { H.lent shelf.old < 2 ^ 64 - 257 → H.lent shelf.new ≡ H.lent shelf.old }
 
     // Why a program is refused, or not run.
-    ensures reason { IsReason result.cause (request_of words.now) }
+    ensures reason { (rows_of result.cause).reason (request_of words.now) }
 
     // What ran: some meaning of the program, whose fault and counts are told, under the record that is returned.
     ensures ran { RanShown result.cause (request_of words.now) result (H.counts shelf.old)
@@ -119,7 +119,7 @@ pub fn spl<W: Threads + Wait + Sync, H: Shelf, S: Starter, G: Gate, P: Pour>(
         (H.counts shelf.new) }
 
     // A request for what is told of a program that is not run ends with no fault, and is built.
-    ensures kinds { MayBe (request_of words.now) result.cause }
+    ensures kinds { (rows_of result.cause).may_be (request_of words.now) }
 
     // Where no device fails, the outcome of the request is the answer, unless memory runs out.
     ensures complete { IfSome (H.told shelf.old)

@@ -13,6 +13,10 @@ argument: 1 + a => Y2 at 218
 argument: abs(1) => Y2 at 218
 argument: [1, 2][0] => Y2 at 218
 argument: {x = 1}.x => Y2 at 218
+argument: (int32) a => Y2 at 218
+argument: true ? 1 : a => Y2 at 218
+argument: a > 1 ? 1 : 2 => Y2 at 218
+argument: true ? 1 : 2 => ok 2 operators 2 streams
 
 # A default has the type of its parameter.
 # a number
@@ -57,6 +61,16 @@ composite D(output O; input I) {param expression<int32> $n; graph stream<I> O = 
 composite D(output O; input I) {param expression<int32> $n; graph stream<I> O = Filter(I) {param filter: a > $n;}} composite C(output O; input I) {param expression<int32> $m; graph stream<I> O = D(I) {param n: $m;}} composite Main {graph stream<int32 a> S = FileSource() {param file: 's';} stream<S> A = C(S) {param m: 2l;}} => Y2 at 319
 # an argument that nobody uses
 composite C(output O; input I) {param expression<int32> $n; graph stream<I> O = Filter(I);} composite Main {graph stream<int32 a> S = FileSource() {param file: 's';} stream<S> A = C(S) {param n: 'x' + nothing(y);}} => ok 2 operators 2 streams
+# a name in a list as an argument
+composite C(output O; input I) {param expression<list<int32>> $p; graph stream<list<int32> l> O = Functor(I) {output O: l = $p;}} composite Main {graph stream<int32 a> S = FileSource() {param file: 's';} stream<list<int32> l> A = C(S) {param p: [1, a];}} => Y2 at 245
+# in the key of a map
+composite C(output O; input I) {param expression<map<int32, int32>> $p; graph stream<map<int32, int32> l> O = Functor(I) {output O: l = $p;}} composite Main {graph stream<int32 a> S = FileSource() {param file: 's';} stream<map<int32, int32> l> A = C(S) {param p: {a : 1};}} => Y2 at 263
+# in its value
+composite C(output O; input I) {param expression<map<int32, int32>> $p; graph stream<map<int32, int32> l> O = Functor(I) {output O: l = $p;}} composite Main {graph stream<int32 a> S = FileSource() {param file: 's';} stream<map<int32, int32> l> A = C(S) {param p: {1 : 2, 3 : -a};}} => Y2 at 263
+# in a tuple
+composite C(output O; input I) {param expression<tuple<int32 x, int32 y>> $p; graph stream<tuple<int32 x, int32 y> l> O = Functor(I) {output O: l = $p;}} composite Main {graph stream<int32 a> S = FileSource() {param file: 's';} stream<tuple<int32 x, int32 y> l> A = C(S) {param p: {x = 1, y = a};}} => Y2 at 281
+# in a list of a tuple
+composite C(output O; input I) {param expression<tuple<list<int32> x>> $p; graph stream<tuple<list<int32> x> l> O = Functor(I) {output O: l = $p;}} composite Main {graph stream<int32 a> S = FileSource() {param file: 's';} stream<tuple<list<int32> x> l> A = C(S) {param p: {x = [(int32) a]};}} => Y2 at 272
 # a default behind an argument
 composite C(output O; input I) {param expression<int32> $n: 'x'; graph stream<I> O = Filter(I) {param filter: a > $n;}} composite Main {graph stream<int32 a> S = FileSource() {param file: 's';} stream<S> A = C(S) {param n: 1;}} => ok 2 operators 2 streams
 # the second invocation's argument

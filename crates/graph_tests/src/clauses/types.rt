@@ -167,6 +167,12 @@ composite C(output O, stream<int32 x> P) {graph stream<int32 a> P = FileSource()
 composite C(input stream<int64 a> I) {graph () as X = FileSink(I) {param file: 'x';}} composite Main {graph stream<int32 a> S = FileSource() {param file: 's';} () as A = C(S);} => Y2 at 25
 # an input that nobody reads
 composite C(input stream<int64 a> I) {} composite Main {graph stream<int32 a> S = FileSource() {param file: 's';} () as A = C(S);} => ok 1 operators 1 streams
+# an input of a composite around the one that reads it
+composite D(input I) {graph () as X = FileSink(I) {param file: 'x';}} composite C(input stream<int64 a> I) {graph () as Y = D(I);} composite Main {graph stream<int32 a> S = FileSource() {param file: 's';} () as A = C(S);} => Y2 at 95
+# the inner one comes first
+composite D(input stream<int8 a> I) {graph () as X = FileSink(I) {param file: 'x';}} composite C(input stream<int64 a> I) {graph () as Y = D(I);} composite Main {graph stream<int32 a> S = FileSource() {param file: 's';} () as A = C(S);} => Y2 at 25
+# the second of two streams
+composite D(input I) {graph () as X = FileSink(I) {param file: 'x';}} composite C(input I, stream<int64 a> J) {graph () as Y = D(I, J);} composite Main {graph stream<int32 a> S = FileSource() {param file: 's';} () as A = C(S; S);} => Y2 at 98
 # another order
 composite C(output stream<int64 b, int32 a> O) {graph stream<int32 a, int64 b> O = FileSource() {param file: 's';}} composite Main {graph stream<int32 a, int64 b> A = C();} => Y2 at 26
 # an unknown type in a head

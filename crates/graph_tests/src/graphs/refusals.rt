@@ -25,6 +25,28 @@ int8 f() {return 1b;} int8 g() {return f() + f();} composite A {} =>  |  | 0:
 composite A {graph () as X = A();} void f() {size(f());} => E2 at 50 f
 # a circle behind a chain
 void a() {b();} void b() {c();} void c() {d();} void d() {b();} composite Main {} => E2 at 26 b
+# by the value of a variable
+int8 f() {int8 a = f(); return a;} composite A {} => E2 at 19 f
+# by the right side of an assignment
+int8 f() {mutable int8 a = 1b; a = f(); return a;} composite A {} => E2 at 35 f
+# by its left side
+int8 f() {mutable list<int8> l; l[f()] = 1b; return 1b;} composite A {} => E2 at 34 f
+# the left side comes first
+int8 f() {mutable list<int8> l; l[f()] = f(); return 1b;} composite A {} => E2 at 34 f
+# by a condition
+boolean f() {if (f()) {} return true;} composite A {} => E2 at 17 f
+# by a later condition
+boolean f() {if (true) {} else if (f()) {} return true;} composite A {} => E2 at 35 f
+# by an else
+void f() {if (true) {} else {f();}} composite A {} => E2 at 29 f
+# by the condition of a while
+boolean f() {while (f()) {} return true;} composite A {} => E2 at 20 f
+# by its body
+void f() {while (true) {f();}} composite A {} => E2 at 24 f
+# by the list of a for
+list<int8> f() {for (int8 i in f()) {} return [1b];} composite A {} => E2 at 31 f
+# by its body
+void f(list<int8> l) {for (int8 i in l) {f(l);}} composite A {} => E2 at 41 f
 # no circle
 void a() {b();} void b() {size([1]);} composite Main {graph () as X = B();} composite B {graph stream<T> F = Filter(S); stream<T> S = FileSource();} => Filter X.F(1) 0; FileSource X.S() 1 | 1 0 | 0:; 1@0.0: 0 1
 
@@ -69,6 +91,46 @@ type t = tuple<tuple<int8 b, int8 b> a, int8 a>; composite A {} => E3 at 34 b
 type t = tuple<int8 b, int8 b>; type u = tuple<int8 a, int8 a>; composite A {} => E3 at 28 b
 # parameters and variables of a function are two sets
 void f(int8 a) {int8 a = 1b;} composite A {} =>  |  | 0:
+# variables of a handler
+composite A {graph stream<int8 n> B = FileSource(); () as C = Custom(B) {logic onTuple B: {int8 a = 1b; int8 a = 2b;}}} => E3 at 109 a
+# of a block in a handler of markers
+composite A {graph stream<int8 n> B = FileSource(); () as C = Custom(B) {logic onPunct B: {int8 a; {int8 b; int8 a; int8 b;}}}} => E3 at 121 b
+# of a later handler
+composite A {graph stream<int8 n> B = FileSource(); () as C = Custom(B) {logic state: int8 a = 1b; onTuple B: {int8 a; int8 b;} onPunct B: {int8 a; int8 a;}}} => E3 at 153 a
+# two handlers have sets of their own
+composite A {graph stream<int8 n> B = FileSource(); () as C = Custom(B) {logic onTuple B: {int8 a;} onPunct B: {int8 a;}}} => FileSource B() 0; Custom C(0) | 0 1 | 0: 0
+# variables in a while
+void f() {int8 a; while (true) {int8 b; int8 b;}} composite A {} => E3 at 45 b
+# in a for
+void f(list<int8> l) {for (int8 i in l) {int8 a; int8 a;}} composite A {} => E3 at 54 a
+# in an else
+void f() {if (true) {int8 a;} else {int8 a; int8 a;}} composite A {} => E3 at 49 a
+# the variable of a loop isn't one of its body
+void f(list<int8> l) {for (int8 a in l) {int8 a;}} composite A {} =>  |  | 0:
+# the shape of an output of a head
+composite A(output stream<int8 a, int8 a> O) {graph stream<T> O = FileSource();} composite Main {} => E3 at 39 a
+# of an input of a head
+composite A(input stream<int8 a, int8 a> I) {} composite Main {} => E3 at 38 a
+# the type of a parameter of a composite
+composite A {param expression<tuple<int8 a, int8 a>> $p: {a = 1b};} => E3 at 49 a
+# a type of a composite
+composite A {type T = int8 a, int8 a;} => E3 at 35 a
+# the type of a result
+tuple<int8 a, int8 a> f() {} composite A {} => E3 at 19 a
+# of a parameter of a function
+void f(tuple<int8 a, int8 a> p) {} composite A {} => E3 at 26 a
+# of a variable
+void f() {mutable tuple<int8 a, int8 a> t;} composite A {} => E3 at 37 a
+# of the variable of a loop
+void f() {for (tuple<int8 a, int8 a> t in []) {}} composite A {} => E3 at 34 a
+# of a variable of a state
+composite A {graph stream<int8 n> B = FileSource(); () as C = Custom(B) {logic state: tuple<int8 a, int8 a> t;}} => E3 at 105 a
+# in a list
+type T = list<tuple<int8 a, int8 a>>; composite A {} => E3 at 33 a
+# in the key of a map
+type T = map<tuple<int8 a, int8 a>, int8>; composite A {} => E3 at 32 a
+# in the value of a map
+type T = map<int8, list<tuple<int8 a, int8 a>>>; composite A {} => E3 at 43 a
 
 # An operator that waits for itself is refused.
 composite M { graph stream<int32 a> A = Filter(B) { } stream<int32 a> B = Filter(A) { } } => E4 at 20 A
@@ -122,6 +184,31 @@ composite M {graph stream<T> S = FileSource(); stream<T> A = Functor(S) {output 
 composite M {graph stream<T> S = FileSource(); () as A = Custom(S) {logic onTuple S: {g($f);}}} => E7 at 88 f
 composite Main {} composite A {graph () as X = Foo();} =>  |  | 0:
 composite M {graph stream<T> A = Filter(C); stream<T> B = FileSource();} => E7 at 40 C
+# a parameter in a window
+composite M {graph stream<T> S = FileSource(); stream<T> A = Aggregate(S) {window S: tumbling, count($f);}} => E7 at 101 f
+# in the value of a state
+composite M {graph stream<T> S = FileSource(); () as A = Custom(S) {logic state: int8 k = [1, -$f];}} => E7 at 95 f
+# in each statement
+composite M {graph stream<T> S = FileSource(); () as A = Custom(S) {logic onTuple S: {int8 a = $f;}}} => E7 at 95 f
+composite M {graph stream<T> S = FileSource(); () as A = Custom(S) {logic onTuple S: {a = $f;}}} => E7 at 90 f
+composite M {graph stream<T> S = FileSource(); () as A = Custom(S) {logic onTuple S: {l[$f] += 1;}}} => E7 at 88 f
+composite M {graph stream<T> S = FileSource(); () as A = Custom(S) {logic onTuple S: {if ($f) {}}}} => E7 at 90 f
+composite M {graph stream<T> S = FileSource(); () as A = Custom(S) {logic onTuple S: {if (true) {} else if ($f) {}}}} => E7 at 108 f
+composite M {graph stream<T> S = FileSource(); () as A = Custom(S) {logic onTuple S: {if (true) {} else {g($f);}}}} => E7 at 107 f
+composite M {graph stream<T> S = FileSource(); () as A = Custom(S) {logic onTuple S: {while ($f) {}}}} => E7 at 93 f
+composite M {graph stream<T> S = FileSource(); () as A = Custom(S) {logic onTuple S: {while (true) g($f);}}} => E7 at 101 f
+composite M {graph stream<T> S = FileSource(); () as A = Custom(S) {logic onTuple S: {for (int8 i in $f) {}}}} => E7 at 101 f
+composite M {graph stream<T> S = FileSource(); () as A = Custom(S) {logic onTuple S: {for (int8 i in l) g($f);}}} => E7 at 106 f
+composite M {graph stream<T> S = FileSource(); () as A = Custom(S) {logic onTuple S: {return $f;}}} => E7 at 93 f
+composite M {graph stream<T> S = FileSource(); () as A = Custom(S) {logic onTuple S: {submit($f, S);}}} => E7 at 93 f
+# the logic before the window
+composite M {graph stream<T> S = FileSource(); () as A = Custom(S) {logic onPunct S: {g($f);} window S: count($h); param p: $h;}} => E7 at 88 f
+# the window before the parameters
+composite M {graph stream<T> S = FileSource(); stream<T> A = Aggregate(S) {window S: tumbling, count($f); param partitionBy: $h;}} => E7 at 101 f
+# the parameters before the output
+composite M {graph stream<T> S = FileSource(); stream<T> A = Aggregate(S) {param p: 1, $f; output A: a = $h;}} => E7 at 87 f
+# the output before config
+composite M {graph stream<T> S = FileSource(); stream<T> A = Aggregate(S) {output A: a = $f; config c: $h;}} => E7 at 89 f
 
 # An invocation fits the head of its composite.
 invoke: stream<T> A = C(S) {param x: 1l;} => FileSource S() 0; Filter A.O(0) 1 | 0 1 | 1: 0 1; 0@0.1: 1 (1 from 0)

@@ -9,6 +9,7 @@ use Rattle.feed_pour.specs.Counts.{PerName, Rose}
 use Rattle.feed_pour.specs.Contents.{Told, WhereTold}
 use Rattle.language_model.specs.declared.checked.CheckedClauses.{CheckedClauses}
 use Rattle.language_model.specs.declared.checked.CheckedClauses.TheVariants as A
+use Rattle.stream_model.specs.declared.record.ArrivalList.{ArrivalList}
 use Rattle.stream_model.specs.declared.record.Arrivals.{Arrivals}
 use Rattle.stream_model.specs.declared.record.SinkCount.{SinkCount}
 use Rattle.language_model.specs.declared.refusal.Refusal.{Refusal}
@@ -21,7 +22,8 @@ use Rattle.stream_model.specs.Meaning.{Graph, Meaning}
 use Rattle.run_report.specs.declared.cause.Cause.{Cause}
 use Rattle.run_report.specs.declared.cause.Cause.TheVariants as C
 use Rattle.run_report.specs.Texts.{status_text}
-use Rattle.check_laws.specs.Files.{source_files, sink_files, is_named, OwnFiles}
+use Rattle.language_model.specs.Files.{source_files, sink_files, OwnFiles}
+use Rattle.language_model.specs.Names.{is_named}
 use Rattle.file_adapters.specs.declared.sinks.Sink.{Sink}
 use Rattle.file_adapters.specs.declared.sinks.Sunk.{Sunk}
 use Rattle.file_adapters.specs.declared.sinks.Sunk.TheVariants as W
@@ -30,12 +32,12 @@ use Rattle.arrival_format.specs.ArrivalTexts.{Spells, arrivals_text}
 use Rattle.list_engine.specs.declared.run.Run.{Run}
 use Rattle.list_engine.specs.declared.run_order.Order.{Order}
 use Rattle.list_engine.specs.declared.run_order.Order.TheVariants as O
-use Rattle.list_engine.specs.Runs.{RowsFit, SinksGiven, rows_at}
+use Rattle.stream_model.specs.Runs.{RowsFit, SinksGiven, rows_at, IsRecordOf}
 use Rattle.list_engine.specs.Runs as L
 use Rattle.source_rows.specs.Counting.{OnlyOf, OnlyRead, OnlyReads, OpeningFailed}
 use Rattle.source_rows.specs.Sources.{FaultsNameSources, ReadsCounted, ReadsFail, rows_told}
 use Rattle.spl_driver.specs.Outcome.{RequestOutcome, NotBuilt, OfPlan, OfSize, Reports, BadArrivals, Runs, IsReplay, IsUnder, has_fault, has_record_fault, meant, run_outcome}
-use Rattle.spl_driver.specs.Answer.{IsUnread, WholeReads, Answered, ByWords, CauseMeans, DevicesMean, DevicesShow, EachSink, HoldsText, IsRecordOf, MayBe, NoCountChanged, IsOr, RecordHolds, StoppedBy, cause_of, is_report}
+use Rattle.spl_driver.specs.Answer.{FollowsBy, IsSpelled, WroteNothing, uncounted, IsUnread, WholeReads, Answered, ByWords, CauseMeans, DevicesMean, DevicesShow, EachSink, HoldsText, MayBe, NoCountChanged, IsOr, RecordHolds, StoppedBy, cause_of, is_report}
 use Rattle.spl_driver.specs.Shown.{IsBadFor, IsReason, NothingRan, RanShown, RanTo, RunShown, Shown}
 use Rattle.spl_driver.specs.Files.{FilesOf}
 use Rattle.spl_driver.specs.Texts.{IsToldOutcome, run_text, wants_counts}
@@ -58,11 +60,25 @@ abbrev pub is_ended_run : Cause → Bool
 is_ended_run C.Done = true
 is_ended_run (C.Stopped fault) = true
 is_ended_run (C.WriteFailed name) = true
-is_ended_run _ = false
+is_ended_run C.BadWords = false
+is_ended_run (C.Refused refusal) = false
+is_ended_run C.NotBuilt = false
+is_ended_run (C.BadArrivals op) = false
+is_ended_run (C.OpenFailed name) = false
+is_ended_run (C.ReadFailed name) = false
+is_ended_run C.NoMemory = false
 
 abbrev pub is_bad_arrivals : Cause → Bool
 is_bad_arrivals (C.BadArrivals op) = true
-is_bad_arrivals _ = false
+is_bad_arrivals C.Done = false
+is_bad_arrivals (C.Stopped fault) = false
+is_bad_arrivals C.BadWords = false
+is_bad_arrivals (C.Refused refusal) = false
+is_bad_arrivals C.NotBuilt = false
+is_bad_arrivals (C.OpenFailed name) = false
+is_bad_arrivals (C.ReadFailed name) = false
+is_bad_arrivals (C.WriteFailed name) = false
+is_bad_arrivals C.NoMemory = false
 
 -- ---- counts of files that are opened and read
 
@@ -315,15 +331,36 @@ abbrev pub MayEndIn : Order → Cause → Type 0
 MayEndIn O.InTurn cause = is_bad_arrivals cause ≡ false
 MayEndIn (O.Recorded given) cause = ⊤
 
--- a run that was carried out under a record, or of which what it gave couldn't be written, has that record
-abbrev pub FollowsOrder : Order → Ended → Type 0
-FollowsOrder O.InTurn ended = ⊤
-FollowsOrder (O.Recorded given) ended = is_ended_run ended.cause ≡ true → ended.arrivals ≡ given
+-- a run under a record that is given has that record
+abbrev pub FollowsOrder : Order → CheckedGraph → Ended → Told → Told → Type 0
+FollowsOrder O.InTurn c ended old new = ⊤
+FollowsOrder (O.Recorded given) c ended old new = FollowsBy ended.cause (ended.arrivals ≡ given) (WroteNothing c ended old new)
 
 -- and a replay that which its file spells
-abbrev pub FollowsFile : Request → CheckedGraph → Ended → Told → Type 0
-FollowsFile (R.Replay program file) c ended old = is_ended_run ended.cause ≡ true → Spells c (old.script file).bytes ended.arrivals
-FollowsFile _ c ended old = ⊤
+abbrev pub FollowsFile : Request → CheckedGraph → Ended → Told → Told → Type 0
+FollowsFile (R.Replay program file) c ended old new =
+    FollowsBy ended.cause (Spells c (old.script file).bytes ended.arrivals) (WroteNothing c ended old new)
+FollowsFile _ c ended old new = ⊤
+
+-- ---- which refusal comes first
+
+-- where a file other than that of the record couldn't be opened, created or read, this spells one
+abbrev pub SpelledUnless : Cause → List ℕ → (RequestOutcome → Type 0) → Type 0
+SpelledUnless (C.OpenFailed name) file Is = name ≢ file → IsSpelled Is
+SpelledUnless (C.ReadFailed name) file Is = name ≢ file → IsSpelled Is
+SpelledUnless C.Done file Is = ⊤
+SpelledUnless (C.Stopped fault) file Is = ⊤
+SpelledUnless C.BadWords file Is = ⊤
+SpelledUnless (C.Refused refusal) file Is = ⊤
+SpelledUnless C.NotBuilt file Is = ⊤
+SpelledUnless (C.BadArrivals op) file Is = ⊤
+SpelledUnless (C.WriteFailed name) file Is = ⊤
+SpelledUnless C.NoMemory file Is = ⊤
+
+-- in a replay
+abbrev pub ReadInOrder : Request → CheckedGraph → Ended → Told → Type 0
+ReadInOrder (R.Replay program file) c ended old = SpelledUnless ended.cause file (IsReplay old c file)
+ReadInOrder _ c ended old = ⊤
 
 -- ---- the record that is written
 
@@ -379,10 +416,18 @@ abbrev pub TellsBehind : Sunk → Bool → CheckedGraph → Ended → List ℕ �
 TellsBehind (W.Done ns) counted c ended text = TellsRun counted c ended text
 TellsBehind _ counted c ended text = text ≡ status_text None ended.cause
 
--- it has the run's record, unless a file couldn't be created: then no run began
+-- a list of a record, emptied
+abbrev pub untaken : ArrivalList → ArrivalList
+untaken list = record { op = list.op; inputs = [] }
+
+-- these are the lists of a record, each emptied
+abbrev pub IsUntaken : Arrivals → Arrivals → Type 0
+IsUntaken arrivals result = result.lists ≡ map untaken arrivals.lists
+
+-- it has the run's record, unless a file couldn't be created: then nothing was taken, and nothing is counted
 abbrev pub RecordedBy : Sunk → Ended → Arrivals → Type 0
 RecordedBy (W.Done ns) ended arrivals = ended.arrivals ≡ arrivals
-RecordedBy (W.NotCreated place) ended arrivals = NothingRan ended
+RecordedBy (W.NotCreated place) ended arrivals = IsUntaken arrivals ended.arrivals × (ended.counts ≡ uncounted)
 RecordedBy (W.NotWritten place) ended arrivals = ended.arrivals ≡ arrivals
 RecordedBy W.Memory ended arrivals = ended.arrivals ≡ arrivals
 
@@ -404,7 +449,9 @@ pub record Replays (file : List ℕ) (c : CheckedGraph) (answer : Answer) (told 
   pub reason : ReasonOf answer.ended.cause c
   pub ran : RanGraph answer.ended.cause c answer.ended counts later
   pub needed : IfSome told (λ t. has_record_fault (t.script file) ≡ true → IsUnread (file ∷ []) answer.ended.cause)
-  pub followed : IfSome told (λ t. is_ended_run answer.ended.cause ≡ true → Spells c (t.script file).bytes answer.ended.arrivals)
+  pub followed : WhereTold told now (λ old new.
+      FollowsBy answer.ended.cause (Spells c (old.script file).bytes answer.ended.arrivals) (WroteNothing c answer.ended old new))
+  pub in_order : IfSome told (λ t. SpelledUnless answer.ended.cause file (IsReplay t c file))
   pub lent : before < 2 ^ 64 - 257 → after ≡ before
 
 -- what is known of the answer to a request before it is told, with what the shelf tells and counts before and after, and what it has lent

@@ -14,7 +14,12 @@ IsText counted C.NoMemory Is text = ⊤
 IsText counted C.Done Is text = IsTextOf counted Is C.Done text
 IsText counted (C.Stopped fault) Is text = IsTextOf counted Is (C.Stopped fault) text
 IsText counted (C.BadArrivals op) Is text = IsTextOf counted Is (C.BadArrivals op) text
-IsText counted cause Is text = text ≡ status_text None cause
+IsText counted C.BadWords Is text = text ≡ status_text None C.BadWords
+IsText counted (C.Refused refusal) Is text = text ≡ status_text None (C.Refused refusal)
+IsText counted C.NotBuilt Is text = text ≡ status_text None C.NotBuilt
+IsText counted (C.OpenFailed name) Is text = text ≡ status_text None (C.OpenFailed name)
+IsText counted (C.ReadFailed name) Is text = text ≡ status_text None (C.ReadFailed name)
+IsText counted (C.WriteFailed name) Is text = text ≡ status_text None (C.WriteFailed name)
 
 -- the name that means standard output
 abbrev pub OUT : List ℕ
@@ -24,7 +29,14 @@ OUT = codes "-"
 abbrev pub is_run : Cause → Bool
 is_run C.Done = true
 is_run (C.Stopped fault) = true
-is_run _ = false
+is_run C.BadWords = false
+is_run (C.Refused refusal) = false
+is_run C.NotBuilt = false
+is_run (C.BadArrivals op) = false
+is_run (C.OpenFailed name) = false
+is_run (C.ReadFailed name) = false
+is_run (C.WriteFailed name) = false
+is_run C.NoMemory = false
 
 -- what is told of a cause becomes of it: it stays, unless memory ran out; but where the text of a request that was carried out isn't
 -- poured, its writing failed

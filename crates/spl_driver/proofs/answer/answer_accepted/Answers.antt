@@ -8,7 +8,9 @@ use Rattle.spl_driver.specs.steps.Steps.{ReasonOf}
 use Rattle.spl_driver.proofs.Causes.{is_replay}
 use Rattle.spl_driver.specs.Texts.{IsReportText}
 use Rattle.spl_driver.proofs.Showing.{graph_ran, replay_ran, report_ran}
-use Rattle.spl_driver.proofs.Carrying.{asks_plan, asks_size, follows_replay, follows_unless, needs_replay, needs_unless, replay_kinds, replayed_counts, replayed_files, replayed_text, ran_counts, ran_files, ran_record, ran_text, run_kinds, reported_counts, reported_files, reported_text}
+use Rattle.feed_pour.specs.Contents.{TellsSame}
+use Rattle.spl_driver.proofs.Fetching.{told_again}
+use Rattle.spl_driver.proofs.Carrying.{asks_plan, asks_size, follows_replay, follows_unless, order_replay, order_unless, needs_replay, needs_unless, replay_kinds, replayed_counts, replayed_files, replayed_text, ran_counts, ran_files, ran_record, ran_text, run_kinds, reported_counts, reported_files, reported_text}
 use Rattle.spl_driver.proofs.answer.answer_accepted.Goals as goal
 
 -- ---- its size
@@ -97,16 +99,46 @@ returns-in-Replay-clause-reason g c = c.replay.ensures.reason
 -- ---- the record that is followed
 
 pub returns-in-Check-clause-followed : goal.returns-in-Check-clause-followed
-returns-in-Check-clause-followed g c = follows_unless _ c.args.request.now c.args.accepted.now c.reported.result.ended (asks_size c.args.request.now c.in-Check.field-0 c.args.accepted.now c.in-Check.is).kinds
+returns-in-Check-clause-followed g c =
+    follows_unless _ _ TellsSame c.args.request.now c.args.accepted.now c.reported.result.ended
+    (asks_size c.args.request.now c.in-Check.field-0 c.args.accepted.now c.in-Check.is).kinds (told_again _)
 
 pub returns-in-Plan-clause-followed : goal.returns-in-Plan-clause-followed
-returns-in-Plan-clause-followed g c = follows_unless _ c.args.request.now c.args.accepted.now c.reported-in-Plan.result.ended (asks_plan c.args.request.now c.in-Plan.field-0 c.args.accepted.now c.in-Plan.is).kinds
+returns-in-Plan-clause-followed g c =
+    follows_unless _ _ TellsSame c.args.request.now c.args.accepted.now c.reported-in-Plan.result.ended
+    (asks_plan c.args.request.now c.in-Plan.field-0 c.args.accepted.now c.in-Plan.is).kinds (told_again _)
 
 pub returns-in-Run-clause-followed : goal.returns-in-Run-clause-followed
-returns-in-Run-clause-followed g c = follows_unless _ c.args.request.now c.args.accepted.now c.run.result.ended (ap (λ (q : Request). is_replay (Some q)) c.in-Run.is)
+returns-in-Run-clause-followed g c =
+    follows_unless _ _ _ c.args.request.now c.args.accepted.now c.run.result.ended
+    (ap (λ (q : Request). is_replay (Some q)) c.in-Run.is) c.run.ensures.followed
 
 pub returns-in-Replay-clause-followed : goal.returns-in-Replay-clause-followed
-returns-in-Replay-clause-followed g c = follows_replay _ c.args.request.now c.in-Replay.program c.in-Replay.arrivals c.args.accepted.now c.replay.result.ended c.in-Replay.is c.replay.ensures.followed
+returns-in-Replay-clause-followed g c =
+    follows_replay _ _ c.args.request.now c.in-Replay.program c.in-Replay.arrivals c.args.accepted.now c.replay.result.ended
+    c.in-Replay.is c.replay.ensures.followed
+
+-- ---- which refusal comes first
+
+pub returns-in-Check-clause-in_order : goal.returns-in-Check-clause-in_order
+returns-in-Check-clause-in_order g c =
+    order_unless _ c.args.request.now c.args.accepted.now c.reported.result.ended
+    (asks_size c.args.request.now c.in-Check.field-0 c.args.accepted.now c.in-Check.is).kinds
+
+pub returns-in-Plan-clause-in_order : goal.returns-in-Plan-clause-in_order
+returns-in-Plan-clause-in_order g c =
+    order_unless _ c.args.request.now c.args.accepted.now c.reported-in-Plan.result.ended
+    (asks_plan c.args.request.now c.in-Plan.field-0 c.args.accepted.now c.in-Plan.is).kinds
+
+pub returns-in-Run-clause-in_order : goal.returns-in-Run-clause-in_order
+returns-in-Run-clause-in_order g c =
+    order_unless _ c.args.request.now c.args.accepted.now c.run.result.ended
+    (ap (λ (q : Request). is_replay (Some q)) c.in-Run.is)
+
+pub returns-in-Replay-clause-in_order : goal.returns-in-Replay-clause-in_order
+returns-in-Replay-clause-in_order g c =
+    order_replay _ c.args.request.now c.in-Replay.program c.in-Replay.arrivals c.args.accepted.now c.replay.result.ended
+    c.in-Replay.is c.replay.ensures.in_order
 
 -- ---- and needed
 

@@ -19,7 +19,7 @@ pub returns-in-OpenFailed : goal.returns-in-OpenFailed
 returns-in-OpenFailed g c =
     let same_name : c.as_slice.result.now ≡ c.args.program.now = search rules in
     named_cause _ _ c.args.request.now (C.OpenFailed c.args.program.now) c.plain_answer-in-OpenFailed.result c.open_failed.result _ _ _ _ c.plain_answer-in-OpenFailed.ensures.cause (subst (λ (n : List ℕ). IsOr (C.OpenFailed n) c.open_failed.result) same_name c.open_failed.ensures)
-    (not_run (C.OpenFailed c.args.program.now) refl) tt tt tt
+    (not_run (C.OpenFailed c.args.program.now) refl) c.in-OpenFailed.ensures.cause.rose tt tt
     (λ same. unopened_shown _ c.args.request.now c.args.program.now _ _ _ c.requires.program same c.in-OpenFailed.ensures.cause)
     c.requires.built c.plain_answer-in-OpenFailed.ensures.text c.plain_answer-in-OpenFailed.ensures.ran (λ small. c.in-OpenFailed.ensures.lent (omega (arith, small)))
     (λ same. unopened_answer begun_same _ _ c.args.request.now c.args.program.now c.plain_answer-in-OpenFailed.result.ended _ _ c.requires.program same c.in-OpenFailed.ensures.cause
@@ -45,7 +45,7 @@ pub returns-in-Checked : goal.returns-in-Checked
 returns-in-Checked g c = record {
   answered = accepted_answer c.accepted_law.ensures.one c.outcome_law.ensures.one_parts _ _ _ c.args.request.now c.args.program.now c.in-Checked.accepted c.answer_accepted.result.ended _ _ _
       c.requires.built c.requires.program (rw (← c.requires.names) c.in-Checked.ensures.made) c.in-Checked.ensures.told c.in-Checked.ensures.cause
-      c.answer_accepted.ensures.files c.answer_accepted.ensures.counts c.answer_accepted.ensures.needed c.answer_accepted.ensures.followed c.answer_accepted.ensures.recorded;
+      c.answer_accepted.ensures.files c.answer_accepted.ensures.counts c.answer_accepted.ensures.needed c.answer_accepted.ensures.followed c.answer_accepted.ensures.in_order c.answer_accepted.ensures.recorded;
   shown = shown_after c.answer_accepted.result.ended.cause c.args.request.now c.in-Checked.accepted _ _ _ _ (rw (← c.requires.names) c.in-Checked.ensures.from) c.in-Checked.ensures.cause
       c.answer_accepted.ensures.counts;
   text = accepted_text _ _ c.args.request.now c.args.program.now c.in-Checked.accepted c.answer_accepted.result.ended.cause c.answer_accepted.result.ended.arrivals c.answer_accepted.result.text _ _ _

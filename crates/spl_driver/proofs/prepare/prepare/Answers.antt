@@ -1,7 +1,7 @@
 use Rattle.std.proofs.Common.{subst}
 use Rattle.list_engine.specs.declared.run_order.RunAnswer.{RunAnswer}
 use Rattle.list_engine.specs.RunOrders.{StopsRun}
-use Rattle.list_engine.specs.Runs.{rows_at}
+use Rattle.stream_model.specs.Runs.{rows_at}
 use Rattle.spl_driver.proofs.Preparing.{not_whole, ran_for, ran_in, rows_fit}
 use Rattle.spl_driver.proofs.prepare.prepare.Goals as goal
 

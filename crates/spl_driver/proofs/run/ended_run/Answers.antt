@@ -1,16 +1,19 @@
+use Rattle.std.proofs.Common.{subst, sym}
+use Rattle.stream_model.specs.declared.record.Arrivals.{Arrivals}
+use Rattle.spl_driver.specs.steps.Steps.{IsUntaken}
 use Rattle.file_adapters.specs.Sinks.{names_of}
 use Rattle.spl_driver.proofs.Running.{ends_not_created, ends_not_written, ends_wanting, ends_done}
 use Rattle.spl_driver.proofs.run.ended_run.Goals as goal
 
 pub returns-in-NotCreated : goal.returns-in-NotCreated
 returns-in-NotCreated c =
-    ends_not_created c.args.sunk.now c.in-NotCreated.place c.args.counted c.args.checked.now (names_of c.args.files.now.sinks c.args.files.now.last) c.args.fault c.args.arrivals c.plain_answer.result c.name_at.result.now _ c.in-NotCreated.is
-    c.name_at.ensures c.open_failed.ensures c.plain_answer.ensures.cause c.plain_answer.ensures.text c.plain_answer.ensures.ran
+    ends_not_created c.args.sunk.now c.in-NotCreated.place c.args.counted c.args.checked.now (names_of c.args.files.now.sinks c.args.files.now.last) c.args.fault c.args.arrivals c.unfinished.result c.name_at.result.now _ c.in-NotCreated.is
+    c.name_at.ensures c.open_failed-cause.ensures c.unfinished.ensures.cause c.unfinished.ensures.text (subst (λ (a : Arrivals). IsUntaken c.args.arrivals a) (sym c.unfinished.ensures.recorded) c.untaken.ensures) c.unfinished.ensures.counts
 
 pub returns-in-NotWritten : goal.returns-in-NotWritten
 returns-in-NotWritten c =
-    ends_not_written c.args.sunk.now c.in-NotWritten.place c.args.counted c.args.checked.now (names_of c.args.files.now.sinks c.args.files.now.last) c.args.fault c.args.arrivals c.unfinished.result c.name_at-in-NotWritten.result.now _ c.in-NotWritten.is
-    c.name_at-in-NotWritten.ensures c.write_failed.ensures c.unfinished.ensures.cause c.unfinished.ensures.text c.unfinished.ensures.recorded
+    ends_not_written c.args.sunk.now c.in-NotWritten.place c.args.counted c.args.checked.now (names_of c.args.files.now.sinks c.args.files.now.last) c.args.fault c.args.arrivals c.unfinished-in-NotWritten.result c.name_at-in-NotWritten.result.now _ c.in-NotWritten.is
+    c.name_at-in-NotWritten.ensures c.write_failed.ensures c.unfinished-in-NotWritten.ensures.cause c.unfinished-in-NotWritten.ensures.text c.unfinished-in-NotWritten.ensures.recorded
 
 pub returns-in-Memory : goal.returns-in-Memory
 returns-in-Memory c =

@@ -25,13 +25,13 @@ pub returns-in-OpenFailed-clause-kinds : goal.returns-in-OpenFailed-clause-kinds
 returns-in-OpenFailed-clause-kinds g c = may_end c.args.order.now c.plain_answer.result.ended.cause (not_bad c.plain_answer.result.ended.cause (C.OpenFailed c.in-OpenFailed.name) c.plain_answer.ensures.cause refl)
 
 pub returns-in-OpenFailed-clause-followed : goal.returns-in-OpenFailed-clause-followed
-returns-in-OpenFailed-clause-followed g c = follows_not c.args.order.now c.plain_answer.result.ended (ends_at c.plain_answer.result.ended.cause (C.OpenFailed c.in-OpenFailed.name) c.plain_answer.ensures.cause refl)
+returns-in-OpenFailed-clause-followed g c = follows_not c.args.order.now c.args.checked.now c.plain_answer.result.ended _ _ (ends_at c.plain_answer.result.ended.cause (C.OpenFailed c.in-OpenFailed.name) c.plain_answer.ensures.cause refl) c.in-OpenFailed.ensures.told
 
 pub returns-in-OpenFailed-clause-reason : goal.returns-in-OpenFailed-clause-reason
 returns-in-OpenFailed-clause-reason g c = subst (λ (k : Cause). ReasonOf k c.args.checked.now) (sym c.plain_answer.ensures.cause) tt
 
 pub returns-in-OpenFailed-clause-ran : goal.returns-in-OpenFailed-clause-ran
-returns-in-OpenFailed-clause-ran g c = at_plain c.plain_answer.result.ended.cause (C.OpenFailed c.in-OpenFailed.name) _ _ c.plain_answer.result.ended _ _ c.plain_answer.ensures.cause tt c.plain_answer.ensures.ran
+returns-in-OpenFailed-clause-ran g c = at_plain c.plain_answer.result.ended.cause (C.OpenFailed c.in-OpenFailed.name) _ _ c.plain_answer.result.ended _ _ c.plain_answer.ensures.cause c.in-OpenFailed.ensures.cause.rose c.plain_answer.ensures.ran
 
 -- ---- the record isn't whole
 
@@ -54,7 +54,7 @@ pub returns-in-NotWhole-clause-kinds : goal.returns-in-NotWhole-clause-kinds
 returns-in-NotWhole-clause-kinds g c = partial_kinds c.args.order.now c.args.checked.now c.in-NotWhole.op _ c.bad_arrivals.result.ended.cause c.in-NotWhole.ensures.made
 
 pub returns-in-NotWhole-clause-followed : goal.returns-in-NotWhole-clause-followed
-returns-in-NotWhole-clause-followed g c = follows_not c.args.order.now c.bad_arrivals.result.ended (ends_at c.bad_arrivals.result.ended.cause (C.BadArrivals (Some c.in-NotWhole.op)) c.bad_arrivals.ensures.cause refl)
+returns-in-NotWhole-clause-followed g c = follows_not c.args.order.now c.args.checked.now c.bad_arrivals.result.ended _ _ (ends_at c.bad_arrivals.result.ended.cause (C.BadArrivals (Some c.in-NotWhole.op)) c.bad_arrivals.ensures.cause refl) c.in-NotWhole.ensures.told
 
 pub returns-in-NotWhole-clause-reason : goal.returns-in-NotWhole-clause-reason
 returns-in-NotWhole-clause-reason g c = subst (λ (k : Cause). ReasonOf k c.args.checked.now) (sym c.bad_arrivals.ensures.cause) c.in-NotWhole.ensures.made.bad
@@ -78,7 +78,7 @@ pub returns-in-Memory-clause-kinds : goal.returns-in-Memory-clause-kinds
 returns-in-Memory-clause-kinds g c = may_end c.args.order.now c.plain_answer-in-Memory.result.ended.cause (not_bad c.plain_answer-in-Memory.result.ended.cause C.NoMemory c.plain_answer-in-Memory.ensures.cause refl)
 
 pub returns-in-Memory-clause-followed : goal.returns-in-Memory-clause-followed
-returns-in-Memory-clause-followed g c = follows_not c.args.order.now c.plain_answer-in-Memory.result.ended (ends_at c.plain_answer-in-Memory.result.ended.cause C.NoMemory c.plain_answer-in-Memory.ensures.cause refl)
+returns-in-Memory-clause-followed g c = follows_not c.args.order.now c.args.checked.now c.plain_answer-in-Memory.result.ended _ _ (ends_at c.plain_answer-in-Memory.result.ended.cause C.NoMemory c.plain_answer-in-Memory.ensures.cause refl) c.in-Memory.ensures.told
 
 pub returns-in-Memory-clause-reason : goal.returns-in-Memory-clause-reason
 returns-in-Memory-clause-reason g c = subst (λ (k : Cause). ReasonOf k c.args.checked.now) (sym c.plain_answer-in-Memory.ensures.cause) tt
@@ -100,7 +100,7 @@ pub returns-in-Err-clause-kinds : goal.returns-in-Err-clause-kinds
 returns-in-Err-clause-kinds g c = may_end c.args.order.now c.plain_answer-in-Err.result.ended.cause (not_bad c.plain_answer-in-Err.result.ended.cause C.NoMemory c.plain_answer-in-Err.ensures.cause refl)
 
 pub returns-in-Err-clause-followed : goal.returns-in-Err-clause-followed
-returns-in-Err-clause-followed g c = follows_not c.args.order.now c.plain_answer-in-Err.result.ended (ends_at c.plain_answer-in-Err.result.ended.cause C.NoMemory c.plain_answer-in-Err.ensures.cause refl)
+returns-in-Err-clause-followed g c = follows_not c.args.order.now c.args.checked.now c.plain_answer-in-Err.result.ended _ _ (ends_at c.plain_answer-in-Err.result.ended.cause C.NoMemory c.plain_answer-in-Err.ensures.cause refl) c.in-Ran.ensures.told
 
 pub returns-in-Err-clause-reason : goal.returns-in-Err-clause-reason
 returns-in-Err-clause-reason g c = subst (λ (k : Cause). ReasonOf k c.args.checked.now) (sym c.plain_answer-in-Err.ensures.cause) tt
@@ -152,7 +152,8 @@ returns-in-Ok-clause-kinds g c =
 pub returns-in-Ok-clause-followed : goal.returns-in-Ok-clause-followed
 returns-in-Ok-clause-followed g c =
     let end = c.ended_run.ensures in
-    sunk_follows c.args.order.now _ c.write_sinks-sunk.result c.args.checked.now (names_of c.in-Ok.files.sinks c.in-Ok.files.last) c.in-Ran.run' c.ended_run.result.ended _ _ c.write_sinks-sunk.ensures.cause c.in-Ran.ensures.made.1 end.ends end.recorded
+    sunk_follows c.args.order.now _ _ _ c.write_sinks-sunk.result c.in-Ok.files.sinks c.in-Ok.files.last c.args.checked.now c.in-Ran.run' c.ended_run.result.ended _ _ _
+    c.in-Ran.ensures.made.0 c.in-Ran.ensures.made.1 c.in-Ran.ensures.told c.write_sinks-sunk.ensures.told c.write_sinks-sunk.ensures.cause end.ends end.recorded
 
 pub returns-in-Ok-clause-reason : goal.returns-in-Ok-clause-reason
 returns-in-Ok-clause-reason g c =
@@ -162,7 +163,7 @@ pub returns-in-Ok-clause-ran : goal.returns-in-Ok-clause-ran
 returns-in-Ok-clause-ran g c =
     let end = c.ended_run.ensures in
     sunk_ran c.engine_law.ensures.sinks _ c.write_sinks-sunk.result c.args.checked.now c.in-Ok.files.sinks (names_of c.in-Ok.files.sinks c.in-Ok.files.last) c.in-Ran.run' c.ended_run.result.ended _ _ _ c.kept.ensures c.in-Ok.ensures.sinks c.in-Ran.ensures.made.0
-    c.write_sinks-sunk.ensures.count c.write_sinks-sunk.ensures.cause end.ends end.recorded
+    c.in-Ran.ensures.cause c.write_sinks-sunk.ensures.count c.write_sinks-sunk.ensures.cause end.ends end.recorded
 
 pub returns-in-Ok-clause-lent : goal.returns-in-Ok-clause-lent
 returns-in-Ok-clause-lent g c = lent_behind c.args.checked.now c.in-Ok.files.sinks _ _ _ c.kept.ensures c.in-Ok.ensures.sinks c.in-Ran.ensures.lent c.write_sinks-sunk.ensures.lent
