@@ -25,12 +25,12 @@ use Rattle.stream_model.specs.declared.plan.StateKind.TheVariants as K
 use Rattle.stream_model.specs.Stream.{Event, is_tuple}
 use Rattle.stream_model.specs.Windows.{flushes_at_markers}
 use Rattle.stream_model.specs.Operators.{Operator}
-use Rattle.stream_model.specs.PortEvents.{items_of, port_events}
+use Rattle.stream_model.specs.PortEvents.{port_items, port_events}
 use Rattle.stream_model.specs.Bodies.{Makes, at_tuple, filter_body, functor_body, holds, most_turns, on_first, on_picked, output, passes, punctor_body, split_body, tuple_by, union_body, values_at, with_marker}
 use Rattle.stream_model.specs.Copies.{source_of, trace, tuple_source}
 use Rattle.stream_model.specs.React.{makes_by}
 use Rattle.stream_model.specs.Regions.{IsCopy}
-use Rattle.stream_model.specs.StateKinds.{is_whole, state_of}
+use Rattle.stream_model.specs.StateKinds.{is_whole_state, state_by}
 use Rattle.stream_model.proofs.StageLaws.{one_in}
 use Rattle.attribute_flow.specs.CopyLaws.{CopiesLaw, CustomCopiesLaw, TraceLaw}
 use Rattle.attribute_flow.proofs.AggregateCopies.{aggregate_copies}
@@ -173,11 +173,11 @@ union_copies places a b source = record { tuples = tuples; others = others } whe
 
 -- ---- operators with one connection
 
-no_keys : (b : Bool) (places : List ℕ) → is_whole (if b then K.Keyed places else K.Whole) ≡ false → b ≡ true
+no_keys : (b : Bool) (places : List ℕ) → is_whole_state (if b then K.Keyed places else K.Whole) ≡ false → b ≡ true
 no_keys true places e = refl
 no_keys false places e = absurd cc
 
-copies_of : (part : CheckedClauses) (a b : ℕ) → is_whole (state_of part) ≡ false → source_of part a ≡ Some b
+copies_of : (part : CheckedClauses) (a b : ℕ) → is_whole_state (state_by part) ≡ false → source_of part a ≡ Some b
     → (n : ℕ) (functions : List Function) (types : PortTypes) (s : ℕ) (outs : List ℕ) (h : List Event)
     → Copies a b (makes_by part (one_in n part functions types s outs) h 0)
 copies_of (A.FileSource file strict) a b kept source n functions types s outs h = absurd cc
@@ -190,7 +190,7 @@ copies_of (A.Union places) a b kept source n functions types s outs h = union_co
 copies_of (A.Custom handlers) a b kept source n functions types s outs h = custom_copies functions handlers a b source h
 copies_of (A.Aggregate window partition group output) a b kept source n functions types s outs h =
     let parts = and_not_parts window.partitioned (flushes_at_markers window.rule) (no_keys (window.partitioned && not (flushes_at_markers window.rule)) partition kept) in
-    aggregate_copies functions window partition group output parts.0 parts.1 a b source (items_of 0 h)
+    aggregate_copies functions window partition group output parts.0 parts.1 a b source (port_items 0 h)
 copies_of (A.Join left right condition made) a b kept source n functions types s outs h = absurd cc
 
 -- an operator with one connection is all that it is

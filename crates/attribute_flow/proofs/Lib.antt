@@ -9,3 +9,4 @@ pub mod KeepingSubmits
 pub mod Reacting
 pub mod TupleFields
 pub mod KindCopies
+pub mod CopyTypes

@@ -84,13 +84,13 @@ same_channels n c (suc w) F G h =
     let rest = same_channels n (suc c) w F G (λ d l. h d (omega arith)) in
     λ i. here i ++ rest i
 
-no_channel : (n c w : ℕ) (F : ℕ → List Tagged) → ((d : ℕ) → c ≤ d → d < c + w → filter (is_number n) (F d) ≡ []) → of_number n (channels_from c w F) ≡ []
+pub no_channel : (n c w : ℕ) (F : ℕ → List Tagged) → ((d : ℕ) → c ≤ d → d < c + w → filter (is_number n) (F d) ≡ []) → of_number n (channels_from c w F) ≡ []
 no_channel n c zero F h = refl
 no_channel n c (suc w) F h =
     ap (λ z. z ++ of_number n (channels_from (suc c) w F)) (h c (omega arith) (omega arith))
     ∙ no_channel n (suc c) w F (λ d l q. h d (omega arith) (omega arith))
 
-one_channel : (n c w t : ℕ) (F : ℕ → List Tagged) → c ≤ t → t < c + w → ((d : ℕ) → d < c + w → d ≢ t → filter (is_number n) (F d) ≡ [])
+pub one_channel : (n c w t : ℕ) (F : ℕ → List Tagged) → c ≤ t → t < c + w → ((d : ℕ) → d < c + w → d ≢ t → filter (is_number n) (F d) ≡ [])
     → of_number n (channels_from c w F) ≡ filter (is_number n) (F t)
 one_channel n c zero t F l u h = absurd (omega arith)
 one_channel n c (suc w) t F l u h = go (cases_lt c t) (λ q. one_channel n (suc c) w t F q (omega arith) (λ d m. h d (omega arith))) where

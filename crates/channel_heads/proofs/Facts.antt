@@ -11,7 +11,7 @@ use Rattle.spl_value.specs.declared.packet.Packet.{Packet}
 use Rattle.spl_value.specs.declared.packet.Packet.TheVariants as P
 use Rattle.spl_value.proofs.Lists.{append_last, get_set_same, set_elsewhere}
 use Rattle.spl_value.specs.Numbered.{closes, cut, item_of, items_of, number_of, numbers_of, is_last, is_cut, reaches, Rule, ByTurns, ByNumbers, ByPulses, known_by_pulses, with_packet, NeverFalls, AreApart, AreInTurn}
-use Rattle.channel_heads.specs.Held.{Held, MergerHolds, MergerHolds.New, MergerHolds.Took, MergerHolds.Gave, new_held, is_live, head_at, bound_at, is_done, wants, is_waiting, no_heads, takes, gives, IsNext, IsLeast}
+use Rattle.channel_heads.specs.Held.{Held, MergerHolds, MergerHolds.New, MergerHolds.Took, MergerHolds.Gave, new_held, is_merging, head_at, bound_at, is_done, wants, is_waiting, no_heads, takes, gives_head, IsNext, IsLeast}
 use Rattle.channel_heads.proofs.ByNumber.{Tagged, Gift, is_number, AtLeast, Climbs, WithinWidth, front, front-cons, least-append}
 use Rattle.channel_heads.proofs.Packets.{last_or, last_or-append, none_right, any_right, reached_next, last_reaches, item_reaches, close_reaches, all_channels, channel_of_all, packet_here, by_packet, apart_before, turns_before, known_more, one_division}
 
@@ -82,9 +82,9 @@ pub record Facts (rule : Rule) (w : ℕ) (h : Held) (taken : ℕ → List Packet
   pub size_heads : length h.heads ≡ w
   pub size_bounds : length h.bounds ≡ w
   pub size_done : length h.done ≡ w
-  pub live_rest : is_live h ≡ true → (c : ℕ) → c < w → rest c ≡ option_to_list (head_at h c)
-  pub dead : is_live h ≡ false → (c : ℕ) → head_at h c ≡ None
-  pub uncut : is_live h ≡ true → (c : ℕ) → c < w → list_any is_cut (taken c) ≡ false
+  pub live_rest : is_merging h ≡ true → (c : ℕ) → c < w → rest c ≡ option_to_list (head_at h c)
+  pub dead : is_merging h ≡ false → (c : ℕ) → head_at h c ≡ None
+  pub uncut : is_merging h ≡ true → (c : ℕ) → c < w → list_any is_cut (taken c) ≡ false
   pub are_done : (c : ℕ) → c < w → is_done h c ≡ list_any is_last (taken c)
   pub ended : h.over ≡ true → (more : List Item) → cut (given ++ more) ≡ given
   pub going : h.over ≡ false → (more : List Item) → cut (given ++ more) ≡ given ++ cut more
@@ -148,7 +148,7 @@ wants_parts h c e = go (is_done h c) refl e (head_at h c) refl where
   go false d e None k = (d, k)
   go false d e (Some q) k = let bad : is_none (head_at h c) ≡ false = ap is_none k in absurd cc
 
-live_parts : (h : Held) → is_live h ≡ true → (h.over ≡ false) × (h.cut ≡ false)
+live_parts : (h : Held) → is_merging h ≡ true → (h.over ≡ false) × (h.cut ≡ false)
 live_parts h e = go h.over h.cut refl refl e where
   go : (a b : Bool) → h.over ≡ a → h.cut ≡ b → (not a && not b) ≡ true → (h.over ≡ false) × (h.cut ≡ false)
   go true b x y e = absurd cc
@@ -209,7 +209,7 @@ uncut_more : (taken : ℕ → List Packet) (c d : ℕ) (p : Packet) → is_cut p
 uncut_more taken c d p e h = by_packet (λ z. list_any is_cut z ≡ false) taken c d p (λ _. none_right is_cut (taken d) p h e) (λ _. h)
 
 -- the head that an item becomes
-item_head : (h : Held) (w c n : ℕ) (x : Item) (rest : ℕ → List Tagged) → length h.heads ≡ w → c < w → is_live h ≡ true → head_at h c ≡ None
+item_head : (h : Held) (w c n : ℕ) (x : Item) (rest : ℕ → List Tagged) → length h.heads ≡ w → c < w → is_merging h ≡ true → head_at h c ≡ None
     → ((d : ℕ) → d < w → rest d ≡ option_to_list (head_at h d)) → (d : ℕ) → d < w → left_more rest c (P.Item n x) d ≡ option_to_list (head_at (takes c (P.Item n x) h) d)
 item_head h w c n x rest size lc live none were d ld =
     go (cases_eq d c) ∙ sym (ap (λ b. option_to_list (unwrap_or (slice_get (cond b (slice_set h.heads c (Some (n, x))) h.heads) d) None)) live) where
@@ -220,7 +220,7 @@ item_head h w c n x rest size lc live none were d ld =
           ∙ ap (λ o. option_to_list (unwrap_or o None)) (get_set_same h.heads c (Some (n, x)) (omega arith)))
       go (inr ne) = left_there rest c (P.Item n x) d ne ∙ were d ld ∙ sym (ap (λ o. option_to_list (unwrap_or o None)) (set_elsewhere h.heads c d (Some (n, x)) (λ k. ne (sym k))))
 
-dead_item : (h : Held) (c n : ℕ) (x : Item) → is_live h ≡ false → ((d : ℕ) → head_at h d ≡ None) → (d : ℕ) → head_at (takes c (P.Item n x) h) d ≡ None
+dead_item : (h : Held) (c n : ℕ) (x : Item) → is_merging h ≡ false → ((d : ℕ) → head_at h d ≡ None) → (d : ℕ) → head_at (takes c (P.Item n x) h) d ≡ None
 dead_item h c n x dead none d = ap (λ b. unwrap_or (slice_get (cond b (slice_set h.heads c (Some (n, x))) h.heads) d) None) dead ∙ none d
 
 size_item : (b : Bool) (heads : List (Option Tagged)) (c w : ℕ) (v : Option Tagged) → length heads ≡ w → length (cond b (slice_set heads c v) heads) ≡ w
@@ -284,7 +284,7 @@ took_facts rule w c (P.Item n x) h taken given l want f =
       are_given = f.are_given;
       within = f.within;
       fronts = λ d ld. took_fronts taken f.gifts f.rest c (P.Item n x) d (f.fronts d ld);
-      size_heads = size_item (is_live h) h.heads c w (Some (n, x)) f.size_heads;
+      size_heads = size_item (is_merging h) h.heads c w (Some (n, x)) f.size_heads;
       size_bounds = length-set h.bounds c n ∙ f.size_bounds;
       size_done = f.size_done;
       live_rest = λ e d ld. item_head h w c n x f.rest f.size_heads l e parts.1 (λ d ld. f.live_rest e d ld) d ld;
@@ -343,7 +343,7 @@ took_facts rule w c P.Close h taken given l want f =
     }
 took_facts rule w c P.Cut h taken given l want f =
     let in_done : c < length h.done = (let e : length h.done ≡ w = f.size_done in omega arith) in
-    let dies : is_live (takes c P.Cut h) ≡ false = cut_dead h.over h.cut in
+    let dies : is_merging (takes c P.Cut h) ≡ false = cut_dead h.over h.cut in
     record {
       gifts = f.gifts;
       rest = left_more f.rest c P.Cut;
@@ -374,9 +374,9 @@ pub no_some : (o : Option Tagged) (q : Tagged) → o ≡ None → o ≡ Some q �
 no_some None q d e = absurd cc
 no_some (Some p) q d e = absurd cc
 
-live_head : (rule : Rule) (w : ℕ) (h : Held) (taken : ℕ → List Packet) (given : List Item) (c n : ℕ) (x : Item) → Facts rule w h taken given → head_at h c ≡ Some (n, x) → is_live h ≡ true
-live_head rule w h taken given c n x f e = go (is_live h) refl where
-  go : (b : Bool) → is_live h ≡ b → b ≡ true
+live_head : (rule : Rule) (w : ℕ) (h : Held) (taken : ℕ → List Packet) (given : List Item) (c n : ℕ) (x : Item) → Facts rule w h taken given → head_at h c ≡ Some (n, x) → is_merging h ≡ true
+live_head rule w h taken given c n x f e = go (is_merging h) refl where
+  go : (b : Bool) → is_merging h ≡ b → b ≡ true
   go true k = refl
   go false k = absurd (no_some (head_at h c) (n, x) (f.dead k c) e)
 
@@ -476,8 +476,8 @@ reached_by h w m d taken gifts rest calm done uncut bound fronts left least = go
       end (inr q) = q
 
 gave_rule : (rule : Rule) (w c n : ℕ) (x : Item) (h : Held) (taken : ℕ → List Packet) (given : List Item) (f : Facts rule w h taken given) → c < w
-    → head_at h c ≡ Some (n, x) → is_live h ≡ true → IsNext rule w (length given) h c n
-    → RuleFacts rule w (gives c x h) taken (f.gifts ++ gift c n x ∷ []) (left_less f.rest c) (length given + 1)
+    → head_at h c ≡ Some (n, x) → is_merging h ≡ true → IsNext rule w (length given) h c n
+    → RuleFacts rule w (gives_head c x h) taken (f.gifts ++ gift c n x ∷ []) (left_less f.rest c) (length given + 1)
 gave_rule ByTurns w c n x h taken given f l e live next =
     gave_turn w c n (length given) x taken f.gifts l (ap (λ z. front f.gifts c ++ z) (sym (f.live_rest live c l ∙ ap option_to_list e)) ∙ f.fronts c l)
     (sym (length-map f.gifts (λ (g : Gift). g.1.1)) ∙ ap length f.are_given) next.0 next.1 f.by_rule
@@ -510,9 +510,9 @@ gave_rule ByPulses w c n x h taken given f l e live next =
         one (Some q) is = (next.0 d q.0 q.1 is, tt)
 
 pub gave_facts : (rule : Rule) (w c n : ℕ) (x : Item) (h : Held) (taken : ℕ → List Packet) (given : List Item) → c < w → head_at h c ≡ Some (n, x)
-    → IsNext rule w (length given) h c n → Facts rule w h taken given → Facts rule w (gives c x h) taken (given ++ x ∷ [])
+    → IsNext rule w (length given) h c n → Facts rule w h taken given → Facts rule w (gives_head c x h) taken (given ++ x ∷ [])
 gave_facts rule w c n x h taken given l e next f =
-    let live : is_live h ≡ true = live_head rule w h taken given c n x f e in
+    let live : is_merging h ≡ true = live_head rule w h taken given c n x f e in
     let parts = live_parts h live in
     let left : f.rest c ≡ (n, x) ∷ [] = f.live_rest live c l ∙ ap option_to_list e in
     record {
@@ -532,7 +532,7 @@ gave_facts rule w c n x h taken given l e next f =
       are_done = f.are_done;
       ended = λ over more. ap cut (append_assoc given (x ∷ []) more) ∙ f.going parts.0 (x ∷ more) ∙ ap (λ b. given ++ x ∷ cond b [] (cut more)) (closed h x parts.0 over);
       going = λ goes more. ap cut (append_assoc given (x ∷ []) more) ∙ f.going parts.0 (x ∷ more) ∙ ap (λ b. given ++ x ∷ cond b [] (cut more)) (opened h x goes) ∙ sym (append_assoc given (x ∷ []) (cut more));
-      by_rule = subst (λ k. RuleFacts rule w (gives c x h) taken (f.gifts ++ gift c n x ∷ []) (left_less f.rest c) k) (sym (length-append given (x ∷ []))) (gave_rule rule w c n x h taken given f l e live next);
+      by_rule = subst (λ k. RuleFacts rule w (gives_head c x h) taken (f.gifts ++ gift c n x ∷ []) (left_less f.rest c) k) (sym (length-append given (x ∷ []))) (gave_rule rule w c n x h taken given f l e live next);
     } where
       open_item : (h : Held) (x : Item) → (not (h.over || closes x) && not h.cut) ≡ true → closes x ≡ false
       open_item h x e = go h.over (closes x) refl e where
@@ -541,7 +541,7 @@ gave_facts rule w c n x h taken given l e next f =
         go false true q e = absurd cc
         go false false q e = q
 
-      closing : (h : Held) (x : Item) → is_live h ≡ true → (not (h.over || closes x) && not h.cut) ≡ false → closes x ≡ true
+      closing : (h : Held) (x : Item) → is_merging h ≡ true → (not (h.over || closes x) && not h.cut) ≡ false → closes x ≡ true
       closing h x live e = go (closes x) refl where
         go : (b : Bool) → closes x ≡ b → closes x ≡ true
         go true q = q

@@ -7,7 +7,7 @@ use Rattle.spl_value.specs.declared.item.Item.{Item}
 use Rattle.spl_value.specs.declared.packet.Packet.{Packet}
 use Rattle.spl_value.specs.declared.packet.Packet.TheVariants as P
 use Rattle.spl_value.specs.Numbered.{closes}
-use Rattle.channel_heads.specs.Held.{Held, is_live, width_of, least_with, least_of, no_heads, takes, gives}
+use Rattle.channel_heads.specs.Held.{Held, is_merging, width_of, least_with, least_of, no_heads, takes, gives_head}
 use Rattle.channel_heads.proofs.ByNumber.{Tagged}
 use Rattle.channel_heads.proofs.Facts.{no_some}
 
@@ -87,7 +87,7 @@ least_there (Some p ∷ heads) n e = go (fold_there heads p.0 n e) where
 -- ---- the width
 
 pub width-takes : (c : ℕ) (p : Packet) (h : Held) → width_of (takes c p h) ≡ width_of h
-width-takes c (P.Item n x) h = go (is_live h) where
+width-takes c (P.Item n x) h = go (is_merging h) where
   go : (b : Bool) → length (cond b (slice_set h.heads c (Some (n, x))) h.heads) ≡ length h.heads
   go true = length-set h.heads c (Some (n, x))
   go false = refl
@@ -95,7 +95,7 @@ width-takes c (P.Pulse n) h = refl
 width-takes c P.Close h = refl
 width-takes c P.Cut h = length-map h.heads (λ _. None)
 
-pub width-gives : (c : ℕ) (x : Item) (h : Held) → width_of (gives c x h) ≡ width_of h
+pub width-gives : (c : ℕ) (x : Item) (h : Held) → width_of (gives_head c x h) ≡ width_of h
 width-gives c x h = go (closes x) where
   go : (b : Bool) → length (cond b (no_heads (slice_set h.heads c None)) (slice_set h.heads c None)) ≡ length h.heads
   go true = length-map (slice_set h.heads c None) (λ _. None) ∙ length-set h.heads c None

@@ -1,6 +1,8 @@
 pub mod HeadLists
 pub mod ByNumber
 pub mod Packets
+pub mod Fronts
+pub mod Cuts
 pub mod Facts
 pub mod MergeLawLemmas
 pub mod Leasts

@@ -10,7 +10,7 @@ use Rattle.spl_value.specs.declared.item.Item.{Item}
 use Rattle.spl_value.specs.declared.packet.Packet.{Packet}
 use Rattle.spl_value.proofs.Lists.{append_last}
 use Rattle.spl_value.specs.Numbered.{cut, below, of_number, in_turn, top_all, items_of, numbers_of, is_last, reaches, channels, channels_from, taken_items, has_number, Rule, ByTurns, ByNumbers, ByPulses, known, known_by_number, known_by_pulses, merged, InOrder, Rises, AreApart, AreRising}
-use Rattle.channel_heads.specs.Held.{Held, is_live, head_at, bound_at, is_done, is_waiting, IsBlocked}
+use Rattle.channel_heads.specs.Held.{Held, is_merging, head_at, bound_at, is_done, is_waiting, IsBlocked}
 use Rattle.channel_heads.specs.MergeLaws.{PrefixLaw, WholeLaw}
 use Rattle.channel_heads.proofs.ByNumber.{Tagged, Gift, is_number, AtLeast, Climbs, WithinWidth, Apart, front, front-cons, gifts_in_turn}
 use Rattle.channel_heads.proofs.Packets.{last_or, any_left, any_right, any_parts, any_channel, channel_of_any, channel_of_all, channels-same, reached_last, known_less, rises_once, in_turn_rises, one_division}
@@ -269,7 +269,7 @@ waiting_unknown w bound m d taken l a open_ is lt = go (known_by_pulses w taken 
       absurd (omega arith)
   go false e = refl
 
-blocked_unknown : (rule : Rule) (w : ℕ) (h : Held) (taken : ℕ → List Packet) (given : List Item) (f : Facts rule w h taken given) → InOrder rule w taken → is_live h ≡ true
+blocked_unknown : (rule : Rule) (w : ℕ) (h : Held) (taken : ℕ → List Packet) (given : List Item) (f : Facts rule w h taken given) → InOrder rule w taken → is_merging h ≡ true
     → IsBlocked rule w (length given) h → (c : ℕ) → c < w → AllByRecursion (λ p. known rule w taken p.0 ≡ false) (f.rest c)
 blocked_unknown ByTurns w h taken given f a live blocked c l =
     let t : TurnFacts w taken f.gifts (length given) = f.by_rule in
@@ -323,7 +323,7 @@ whole rule w h taken given s a uncut (inr blocked) = go h.over refl where
   go : (b : Bool) → h.over ≡ b → given ≡ merged rule w taken
   go true e = sym (is ∙ f.ended e (map (λ (p : Tagged). p.1) more))
   go false e =
-      let live : is_live h ≡ true = (λ i. not (e i) && not (uncut i)) in
+      let live : is_merging h ≡ true = (λ i. not (e i) && not (uncut i)) in
       let nothing : more ≡ [] = none_known (known rule w taken) (in_turn (channels w f.rest))
       (all_below (λ p. known rule w taken p.0 ≡ false) (top_all (channels w f.rest)) (λ n. of_number n (channels w f.rest))
       (λ n. all_of_number (λ p. known rule w taken p.0 ≡ false) n 0 w f.rest (λ d l. blocked_unknown rule w h taken given f a live blocked d (omega arith)))) in

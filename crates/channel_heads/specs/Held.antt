@@ -23,8 +23,8 @@ new_held width = record { heads = replicate width None; bounds = replicate width
 abbrev pub width_of : Held → ℕ
 width_of h = length h.heads
 
-abbrev pub is_live : Held → Bool
-is_live h = not h.over && not h.cut
+abbrev pub is_merging : Held → Bool
+is_merging h = not h.over && not h.cut
 
 abbrev pub head_at : Held → ℕ → Option (ℕ × Item)
 head_at h c = unwrap_or (slice_get h.heads c) None
@@ -46,14 +46,14 @@ no_heads heads = map (λ _. None) heads
 
 -- a packet is taken on a channel: an item becomes its head, or is dropped where the merger has ended
 abbrev pub takes : ℕ → Packet → Held → Held
-takes c (P.Item n x) h = record h { heads = if is_live h then slice_set h.heads c (Some (n, x)) else h.heads; bounds = slice_set h.bounds c n }
+takes c (P.Item n x) h = record h { heads = if is_merging h then slice_set h.heads c (Some (n, x)) else h.heads; bounds = slice_set h.bounds c n }
 takes c (P.Pulse n) h = record h { bounds = slice_set h.bounds c n }
 takes c P.Close h = record h { done = slice_set h.done c true }
 takes c P.Cut h = record h { heads = no_heads h.heads; done = slice_set h.done c true; cut = h.cut || not h.over }
 
 -- the head of a channel is given
-abbrev pub gives : ℕ → Item → Held → Held
-gives c x h = record h { heads = if closes x then no_heads (slice_set h.heads c None) else slice_set h.heads c None; over = h.over || closes x }
+abbrev pub gives_head : ℕ → Item → Held → Held
+gives_head c x h = record h { heads = if closes x then no_heads (slice_set h.heads c None) else slice_set h.heads c None; over = h.over || closes x }
 
 -- Which head is given
 
@@ -93,4 +93,4 @@ pub data MergerHolds (rule : Rule) (width : ℕ) : Held → (ℕ → List Packet
   Took : {h : Held} {taken : ℕ → List Packet} {given : List Item} (c : ℕ) (packet : Packet) → MergerHolds rule width h taken given
       → c < width → wants h c ≡ true → MergerHolds rule width (takes c packet h) (with_packet taken c packet) given
   Gave : {h : Held} {taken : ℕ → List Packet} {given : List Item} (c n : ℕ) (x : Item) → MergerHolds rule width h taken given
-      → c < width → head_at h c ≡ Some (n, x) → IsNext rule width (length given) h c n → MergerHolds rule width (gives c x h) taken (given ++ x ∷ [])
+      → c < width → head_at h c ≡ Some (n, x) → IsNext rule width (length given) h c n → MergerHolds rule width (gives_head c x h) taken (given ++ x ∷ [])

@@ -1,6 +1,6 @@
 ghost use Rattle.std.specs.Prelude.{◌≡◌, ◌≤◌, ◌<◌, ℕ, ◌↔◌, true, false, List, length, map, replicate, slice_get, slice_set, Option, None, Some, IsTrue, IfOk, MatchOption, MatchBool, ◌≢◌, ◌^◌};
 ghost use Rattle.spl_value.specs.Numbered.{closes as closes_lem};
-ghost use Rattle.channel_heads.specs.Held.{new_held, width_of, head_at, is_waiting, least_with as least_with_lem, least_of, wants as wants_lem, takes, gives};
+ghost use Rattle.channel_heads.specs.Held.{new_held, width_of, head_at, is_waiting, least_with as least_with_lem, least_of, wants as wants_lem, takes, gives_head};
 
 use spl_value::{Item, NoMemory, Packet};
 use std::alloc::Global;
@@ -164,8 +164,8 @@ impl Heads {
     /// The channel's head, which is given then.
     pub fn give(&mut self, channel: usize) -> Option<Item>
         requires { channel < width_of self.old }
-        ensures gives { MatchOption result ((head_at self.old channel ≡ None) × (self.new ≡ self.old))
-            (λ x. (n : ℕ) × (head_at self.old channel ≡ Some (n, x)) × (self.new ≡ gives channel x self.old)) }
+        ensures gives_head { MatchOption result ((head_at self.old channel ≡ None) × (self.new ≡ self.old))
+            (λ x. (n : ℕ) × (head_at self.old channel ≡ Some (n, x)) × (self.new ≡ gives_head channel x self.old)) }
         ensures width { width_of self.new ≡ width_of self.old }
     {
         match take_head(self.heads.as_mut_slice(), channel) {

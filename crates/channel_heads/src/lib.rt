@@ -5,4 +5,4 @@ mod heads;
 mod laws;
 
 pub use heads::Heads;
-pub use laws::merge_law;
+pub use laws::{fronts_law, merge_law};

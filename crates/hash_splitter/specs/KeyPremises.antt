@@ -5,6 +5,7 @@ use Rattle.spl_value.specs.declared.types.SplType.{SplType}
 use Rattle.spl_value.specs.declared.value.Value.{Value}
 use Rattle.spl_value.specs.Key.{enc_values, key_fits}
 
--- bytes would tell a key of these types from each other one
-abbrev pub OneFittingLaw : Type 0
-OneFittingLaw = (types : List SplType) (values others : List Value) → IsTrue (pointwise key_fits types values) → enc_values values ≡ enc_values others → values ≡ others
+-- bytes tell a key of these types from each other one, whatever the types of that: this is not so
+abbrev pub OneFittingSuffices : Type 0
+OneFittingSuffices = (types : List SplType) (values others : List Value) → IsTrue (pointwise key_fits types values)
+    → enc_values values ≡ enc_values others → values ≡ others

@@ -4,7 +4,7 @@ use Rattle.std.specs.Option.{MatchOption, option_to_list}
 use Rattle.spl_value.specs.declared.item.Item.{Item}
 use Rattle.spl_value.specs.declared.packet.Packet.{Packet}
 use Rattle.spl_value.specs.Numbered.{ByTurns, ByNumbers, InOrder, merged, with_packet}
-use Rattle.channel_heads.specs.Held.{Held, MergerHolds, MergerHolds.New, MergerHolds.Took, MergerHolds.Gave, head_at, wants, width_of, takes, gives}
+use Rattle.channel_heads.specs.Held.{Held, MergerHolds, MergerHolds.New, MergerHolds.Took, MergerHolds.Gave, head_at, wants, width_of, takes, gives_head}
 use Rattle.channel_heads.proofs.Facts.{facts}
 use Rattle.channel_heads.proofs.Giving.{given_is}
 use Rattle.channel_heads.proofs.MergeLawLemmas.{prefix, whole}
@@ -22,7 +22,7 @@ number_took w c p m taken given s l want =
     record { held = Took c p s.held (omega arith) want; next = s.next }
 
 pub number_gave : (w c : ℕ) (x : Item) (m : Numbering) (taken : ℕ → List Packet) (given : List Item) → NumberStands w m taken given → c < width_of m.held → head_at m.held c ≡ Some (m.next, x)
-    → NumberStands w (record { held = gives c x m.held; next = m.next + 1 }) taken (given ++ x ∷ [])
+    → NumberStands w (record { held = gives_head c x m.held; next = m.next + 1 }) taken (given ++ x ∷ [])
 number_gave w c x m taken given s l e =
     let size : width_of m.held ≡ w = (facts ByNumbers w m.held taken given s.held).size_heads in
     record { held = Gave c m.next x s.held (omega arith) e (sym s.next); next = length-append given (x ∷ []) ∙ ap (λ n. n + 1) s.next }
@@ -48,7 +48,7 @@ turn_took w c p m taken given s l want =
 -- the turn goes to the next channel, and from the last to the first
 pub turn_gave : (w n next : ℕ) (x : Item) (m : Turning) (taken : ℕ → List Packet) (given : List Item) → TurnStands w m taken given → m.turn < width_of m.held → head_at m.held m.turn ≡ Some (n, x)
     → ((next ≡ m.turn + 1) × (m.turn + 1 < width_of m.held)) ⊎ ((next ≡ 0) × (width_of m.held ≤ m.turn + 1))
-    → TurnStands w (record { held = gives m.turn x m.held; turn = next }) taken (given ++ x ∷ [])
+    → TurnStands w (record { held = gives_head m.turn x m.held; turn = next }) taken (given ++ x ∷ [])
 turn_gave w n next x m taken given s l e next_is = go next_is where
   size : width_of m.held ≡ w
   size = (facts ByTurns w m.held taken given s.held).size_heads
@@ -56,13 +56,13 @@ turn_gave w n next x m taken given s l e next_is = go next_is where
   here : m.turn < w
   here = let z : width_of m.held ≡ w = size in omega arith
 
-  held : MergerHolds ByTurns w (gives m.turn x m.held) taken (given ++ x ∷ [])
+  held : MergerHolds ByTurns w (gives_head m.turn x m.held) taken (given ++ x ∷ [])
   held = Gave m.turn n x s.held here e (s.rounds, s.turn)
 
   longer : length (given ++ x ∷ []) ≡ length given + 1
   longer = length-append given (x ∷ [])
 
-  go : (((next ≡ m.turn + 1) × (m.turn + 1 < width_of m.held)) ⊎ ((next ≡ 0) × (width_of m.held ≤ m.turn + 1))) → TurnStands w (record { held = gives m.turn x m.held; turn = next }) taken (given ++ x ∷ [])
+  go : (((next ≡ m.turn + 1) × (m.turn + 1 < width_of m.held)) ⊎ ((next ≡ 0) × (width_of m.held ≤ m.turn + 1))) → TurnStands w (record { held = gives_head m.turn x m.held; turn = next }) taken (given ++ x ∷ [])
   go (inl k) =
       let is : next ≡ m.turn + 1 = k.0 in
       let was : length given ≡ s.rounds * w + m.turn = s.turn in
@@ -97,7 +97,7 @@ number_takes w c next p h after now view e l want taken given s =
     let M : (Held × ℕ) → Type 0 = λ m. NumberStands w (record { held = m.0; next = m.1 }) (with_packet taken c p) given in
     subst M (λ i. (held i, same i)) (number_took w c p now taken given s l want)
 
-pub number_gives : (w c next : ℕ) (x : Item) (h after : Held) (now : Numbering) → record { held = h; next = next } ≡ now → after ≡ gives c x h → c < width_of h → head_at h c ≡ Some (next, x)
+pub number_gives : (w c next : ℕ) (x : Item) (h after : Held) (now : Numbering) → record { held = h; next = next } ≡ now → after ≡ gives_head c x h → c < width_of h → head_at h c ≡ Some (next, x)
     → (taken : ℕ → List Packet) (given : List Item) → NumberStands w now taken given → NumberStands w (record { held = after; next = next + 1 }) taken (given ++ x ∷ [])
 number_gives w c next x h after now view e l head taken given s =
     let m : Numbering = record { held = h; next = next } in
@@ -112,7 +112,7 @@ turn_takes w c turn p h after now view e l want taken given s =
     let M : (Held × ℕ) → Type 0 = λ m. TurnStands w (record { held = m.0; turn = m.1 }) (with_packet taken c p) given in
     subst M (λ i. (held i, same i)) (turn_took w c p now taken given s l want)
 
-pub turn_gives : (w n turn next : ℕ) (x : Item) (h after : Held) (now : Turning) → record { held = h; turn = turn } ≡ now → after ≡ gives turn x h → turn < width_of h → head_at h turn ≡ Some (n, x)
+pub turn_gives : (w n turn next : ℕ) (x : Item) (h after : Held) (now : Turning) → record { held = h; turn = turn } ≡ now → after ≡ gives_head turn x h → turn < width_of h → head_at h turn ≡ Some (n, x)
     → ((next ≡ turn + 1) × (turn + 1 < width_of h)) ⊎ ((next ≡ 0) × (width_of h ≤ turn + 1))
     → (taken : ℕ → List Packet) (given : List Item) → TurnStands w now taken given → TurnStands w (record { held = after; turn = next }) taken (given ++ x ∷ [])
 turn_gives w n turn next x h after now view e l head next_is taken given s =
@@ -121,7 +121,7 @@ turn_gives w n turn next x h after now view e l head next_is taken given s =
     (turn_gave w n next x m taken given (subst (λ z. TurnStands w z taken given) (sym view) s) l head next_is)
 
 pub number_emits : (w c next : ℕ) (y : Item) (h after : Held) (r : Option Item) (now : Numbering) → record { held = h; next = next } ≡ now
-    → MatchOption r ((head_at h c ≡ None) × (after ≡ h)) (λ x. (k : ℕ) × (head_at h c ≡ Some (k, x)) × (after ≡ gives c x h)) → c < width_of h → head_at h c ≡ Some (next, y)
+    → MatchOption r ((head_at h c ≡ None) × (after ≡ h)) (λ x. (k : ℕ) × (head_at h c ≡ Some (k, x)) × (after ≡ gives_head c x h)) → c < width_of h → head_at h c ≡ Some (next, y)
     → (taken : ℕ → List Packet) (given : List Item) → NumberStands w now taken given → NumberStands w (record { held = after; next = next + 1 }) taken (given ++ option_to_list r)
 number_emits w c next y h after r now view m l head taken given s =
     let g = given_is h after c next y r m head in

@@ -3,7 +3,7 @@ ghost use Rattle.std.specs.Option.{option_to_list};
 ghost use Rattle.spl_value.specs.declared.item.Item.{Item};
 ghost use Rattle.spl_value.specs.declared.packet.Packet.{Packet};
 ghost use Rattle.spl_value.specs.Numbered.{ByNumbers, InOrder, merged, with_packet};
-ghost use Rattle.channel_heads.specs.Held.{head_at, wants as wants_lem, width_of, takes, gives};
+ghost use Rattle.channel_heads.specs.Held.{head_at, wants as wants_lem, width_of, takes, gives_head};
 ghost use Rattle.order_merger.specs.Merging.{NumberStands, new_numbering};
 
 use channel_heads::Heads;
@@ -70,9 +70,9 @@ impl NumberMerger {
     /// The head with the next number. None comes exactly where no head has it.
     pub fn emit(&mut self) -> Option<Item>
         ensures width { width_of self.new.held ≡ width_of self.old.held }
-        ensures gives { MatchOption result
+        ensures gives_head { MatchOption result
             (((c n : ℕ) (x : Item) → head_at self.old.held c ≡ Some (n, x) → n ≢ self.old.next) × (self.new ≡ self.old))
-            (λ x. (c : ℕ) × (head_at self.old.held c ≡ Some (self.old.next, x)) × (self.new ≡ record { held = gives c x self.old.held; next = self.old.next + 1 })) }
+            (λ x. (c : ℕ) × (head_at self.old.held c ≡ Some (self.old.next, x)) × (self.new ≡ record { held = gives_head c x self.old.held; next = self.old.next + 1 })) }
         ensures stands { (width : ℕ) (taken : ℕ → List Packet) (given : List Item) → NumberStands width self.old taken given
             → NumberStands width self.new taken (given ++ option_to_list result) }
         // What was given is the front of the merge, and all of it where nothing more comes and the merger wasn't cut.

@@ -3,7 +3,7 @@ ghost use Rattle.std.specs.Option.{option_to_list};
 ghost use Rattle.spl_value.specs.declared.item.Item.{Item};
 ghost use Rattle.spl_value.specs.declared.packet.Packet.{Packet};
 ghost use Rattle.spl_value.specs.Numbered.{ByTurns, InOrder, merged, with_packet};
-ghost use Rattle.channel_heads.specs.Held.{head_at, wants as wants_lem, width_of, takes, gives};
+ghost use Rattle.channel_heads.specs.Held.{head_at, wants as wants_lem, width_of, takes, gives_head};
 ghost use Rattle.order_merger.specs.Merging.{TurnStands, new_turning};
 
 use channel_heads::Heads;
@@ -74,8 +74,8 @@ impl TurnMerger {
     /// The head of the channel whose turn it is. None comes exactly where that channel holds none.
     pub fn emit(&mut self) -> Option<Item>
         ensures width { width_of self.new.held ≡ width_of self.old.held }
-        ensures gives { MatchOption result ((head_at self.old.held self.old.turn ≡ None) × (self.new ≡ self.old))
-            (λ x. (n : ℕ) × (head_at self.old.held self.old.turn ≡ Some (n, x)) × (self.new.held ≡ gives self.old.turn x self.old.held)) }
+        ensures gives_head { MatchOption result ((head_at self.old.held self.old.turn ≡ None) × (self.new ≡ self.old))
+            (λ x. (n : ℕ) × (head_at self.old.held self.old.turn ≡ Some (n, x)) × (self.new.held ≡ gives_head self.old.turn x self.old.held)) }
         ensures stands { (width : ℕ) (taken : ℕ → List Packet) (given : List Item) → TurnStands width self.old taken given
             → TurnStands width self.new taken (given ++ option_to_list result) }
         // What was given is the front of the merge, and all of it where nothing more comes and the merger wasn't cut.

@@ -6,7 +6,7 @@ use Rattle.std.proofs.lemmas.Bool.{lt-ltb, ltb-true}
 use Rattle.spl_value.specs.declared.item.Item.{Item}
 use Rattle.spl_value.specs.declared.packet.Packet.{Packet}
 use Rattle.spl_value.specs.Numbered.{ByPulses, InOrder, merged, with_packet}
-use Rattle.channel_heads.specs.Held.{Held, MergerHolds, MergerHolds.Took, MergerHolds.Gave, IsLeast, head_at, bound_at as bound_of, is_waiting, least_of, wants, width_of, takes, gives}
+use Rattle.channel_heads.specs.Held.{Held, MergerHolds, MergerHolds.Took, MergerHolds.Gave, IsLeast, head_at, bound_at as bound_of, is_waiting, least_of, wants, width_of, takes, gives_head}
 use Rattle.channel_heads.proofs.Facts.{facts}
 use Rattle.channel_heads.proofs.Giving.{given_is}
 use Rattle.channel_heads.proofs.Leasts.{least_none, least_some, least_there}
@@ -27,7 +27,7 @@ pulse_took w c p h after e l want taken given s =
     subst (λ k. MergerHolds ByPulses w k (with_packet taken c p) given) (sym e) (Took c p s (omega arith) want)
 
 abbrev pub Gives : Held → Held → ℕ → Option Item → Type 0
-Gives h after c r = MatchOption r ((head_at h c ≡ None) × (after ≡ h)) (λ x. (k : ℕ) × (head_at h c ≡ Some (k, x)) × (after ≡ gives c x h))
+Gives h after c r = MatchOption r ((head_at h c ≡ None) × (after ≡ h)) (λ x. (k : ℕ) × (head_at h c ≡ Some (k, x)) × (after ≡ gives_head c x h))
 
 pub pulse_emits : (w c n : ℕ) (x : Item) (h after : Held) (r : Option Item) → Gives h after c r → IsNextHead h c n x → (taken : ℕ → List Packet) (given : List Item)
     → MergerHolds ByPulses w h taken given → MergerHolds ByPulses w after taken (given ++ option_to_list r)
@@ -35,7 +35,7 @@ pulse_emits w c n x h after r m next taken given s =
     let g = given_is h after c n x r m next.head in
     let size : width_of h ≡ w = (facts ByPulses w h taken given s).size_heads in
     let within : c < width_of h = next.within in
-    let given_on : MergerHolds ByPulses w (gives c x h) taken (given ++ x ∷ []) = Gave c n x s (omega arith) next.head (next.least, λ d l. next.calm d (omega arith)) in
+    let given_on : MergerHolds ByPulses w (gives_head c x h) taken (given ++ x ∷ []) = Gave c n x s (omega arith) next.head (next.least, λ d l. next.calm d (omega arith)) in
     let after_on : MergerHolds ByPulses w after taken (given ++ x ∷ []) = subst (λ k. MergerHolds ByPulses w k taken (given ++ x ∷ [])) (sym g.1) given_on in
     subst (λ o. MergerHolds ByPulses w after taken (given ++ option_to_list o)) (sym g.0) after_on
 

@@ -3,7 +3,7 @@ ghost use Rattle.std.specs.Option.{option_to_list};
 ghost use Rattle.spl_value.specs.declared.item.Item.{Item};
 ghost use Rattle.spl_value.specs.declared.packet.Packet.{Packet};
 ghost use Rattle.spl_value.specs.Numbered.{ByPulses, InOrder, merged, with_packet};
-ghost use Rattle.channel_heads.specs.Held.{MergerHolds, IsLeast, head_at, is_waiting, new_held, wants as wants_lem, width_of, takes, gives};
+ghost use Rattle.channel_heads.specs.Held.{MergerHolds, IsLeast, head_at, is_waiting, new_held, wants as wants_lem, width_of, takes, gives_head};
 ghost use Rattle.pulse_rule.specs.Merging.{IsHeldBack};
 
 use channel_heads::Heads;
@@ -71,8 +71,8 @@ impl PulseMerger {
     pub fn emit(&mut self) -> Option<Item>
         ensures width { width_of self.new ≡ width_of self.old }
         ensures none { IsNone result ↔ IsHeldBack self.old }
-        ensures gives { MatchOption result (self.new ≡ self.old)
-            (λ x. (c n : ℕ) × (head_at self.old c ≡ Some (n, x)) × IsLeast self.old n × (self.new ≡ gives c x self.old)) }
+        ensures gives_head { MatchOption result (self.new ≡ self.old)
+            (λ x. (c n : ℕ) × (head_at self.old c ≡ Some (n, x)) × IsLeast self.old n × (self.new ≡ gives_head c x self.old)) }
         ensures stands { (width : ℕ) (taken : ℕ → List Packet) (given : List Item) → MergerHolds ByPulses width self.old taken given
             → MergerHolds ByPulses width self.new taken (given ++ option_to_list result) }
         // What was given is the front of the merge, and all of it where nothing more comes and the merger wasn't cut.

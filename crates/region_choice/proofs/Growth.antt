@@ -23,14 +23,14 @@ use Rattle.stream_model.specs.Meaning.{Graph}
 use Rattle.stream_model.specs.Operators.{Operator, input_attributes}
 use Rattle.stream_model.specs.Regions.{any_keyed, chain_key, chain_merge, entry_attributes, has_copy, numbers_to, ops_of}
 use Rattle.stream_model.specs.parts.Regions.{is_one_each}
-use Rattle.stream_model.specs.StateKinds.{is_keyed, state_of}
+use Rattle.stream_model.specs.StateKinds.{is_keyed, state_by, state_of}
 use Rattle.stream_model.specs.parts.StateKinds.{has_mutable}
 use Rattle.stream_model.specs.Stream.{is_empty}
 use Rattle.stream_model.specs.Windows.{flushes_at_markers}
 use Rattle.region_choice.specs.declared.growing.Growing.{Growing}
 use Rattle.region_choice.specs.declared.keys.KeySource.{KeySource}
 use Rattle.region_choice.specs.steps.GraphChains.{has_key}
-use Rattle.region_choice.specs.steps.Growing.{added, first_of, Grows, IsGrown, IsLonger, key_source, key_with, leads, merge_of, nothing, region_of}
+use Rattle.region_choice.specs.steps.Growing.{added, first_or, Grows, IsGrown, IsLonger, key_source, key_with, leads, merge_of, nothing, region_of}
 use Rattle.region_choice.specs.steps.Keys.{is_copied, source_at}
 use Rattle.region_choice.specs.steps.Ports.{first_input}
 use Rattle.region_choice.proofs.KeyLaws.{and_true, clauses, copied_is, key_narrows, key_stays, keyed_more, or_false, or_true, safe_narrows, safe_stays}
@@ -53,27 +53,27 @@ width_of c g e n o own at there =
     let same : is.op ≡ own = cc in
     ap (λ (o : Operator). input_attributes o 0) is.same ∙ input_is c is.op.ins ∙ ap (λ (op : Op). first_input c op.ins) same
 
-first_there : (g : Graph) (ops : List ℕ) (n : ℕ) (o : Operator) → slice_get g.ops n ≡ Some o → AreNumbers g ops → (x : Operator) × (slice_get g.ops (first_of n ops) ≡ Some x)
+first_there : (g : Graph) (ops : List ℕ) (n : ℕ) (o : Operator) → slice_get g.ops n ≡ Some o → AreNumbers g ops → (x : Operator) × (slice_get g.ops (first_or n ops) ≡ Some x)
     × (entry_attributes (ops_of g (ops ++ n ∷ [])) ≡ numbers_to (length (input_attributes x 0)))
 first_there g [] n o at all = (o, at, ap (λ found. entry_attributes (option_map_or (λ op. op ∷ []) found [])) at)
 first_there g (m ∷ ops) n o at all =
     let x = get_below g.ops m (all 0 m refl) in
     (x.0, x.1, ap (λ found. entry_attributes (option_map_or (λ op. op ∷ ops_of g (ops ++ n ∷ [])) found (ops_of g (ops ++ n ∷ [])))) x.1)
 
-pub width_is : (c : CheckedGraph) (g : Graph) → graph_of c ≡ g → (ops : List ℕ) (n : ℕ) (o : Operator) → slice_get g.ops n ≡ Some o → AreNumbers g ops → (first : ℕ) → first ≡ first_of n ops
+pub width_is : (c : CheckedGraph) (g : Graph) → graph_of c ≡ g → (ops : List ℕ) (n : ℕ) (o : Operator) → slice_get g.ops n ≡ Some o → AreNumbers g ops → (first : ℕ) → first ≡ first_or n ops
     → (own : Op) → slice_get c.graph.ops first ≡ Some own → (w : ℕ) → w ≡ length (first_input c own.ins) → numbers_to w ≡ entry_attributes (ops_of g (ops ++ n ∷ []))
 width_is c g e ops n o at all first is own there w wide =
     let x = first_there g ops n o at all in
-    let width = width_of c g e (first_of n ops) x.0 own x.1 (ap (slice_get c.graph.ops) (sym is) ∙ there) in
+    let width = width_of c g e (first_or n ops) x.0 own x.1 (ap (slice_get c.graph.ops) (sym is) ∙ there) in
     ap numbers_to (wide ∙ ap length (sym width)) ∙ sym x.2
 
-pub width_there : (c : CheckedGraph) (g : Graph) → graph_of c ≡ g → (ops : List ℕ) (n : ℕ) (o : Operator) → slice_get g.ops n ≡ Some o → AreNumbers g ops → (first : ℕ) → first ≡ first_of n ops
+pub width_there : (c : CheckedGraph) (g : Graph) → graph_of c ≡ g → (ops : List ℕ) (n : ℕ) (o : Operator) → slice_get g.ops n ≡ Some o → AreNumbers g ops → (first : ℕ) → first ≡ first_or n ops
     → slice_get c.graph.ops first ≡ None → ⊥
 width_there c g e ops n o at all first is none =
     let x = first_there g ops n o at all in
-    let there = operator_at c g e (first_of n ops) x.0 x.1 in
-    let found : slice_get c.graph.ops (first_of n ops) ≡ Some there.op = there.there in
-    let same : slice_get c.graph.ops (first_of n ops) ≡ None = ap (slice_get c.graph.ops) (sym is) ∙ none in
+    let there = operator_at c g e (first_or n ops) x.0 x.1 in
+    let found : slice_get c.graph.ops (first_or n ops) ≡ Some there.op = there.there in
+    let same : slice_get c.graph.ops (first_or n ops) ≡ None = ap (slice_get c.graph.ops) (sym is) ∙ none in
     absurd cc
 
 -- ---- copies
@@ -109,7 +109,7 @@ collected_key partition (x ∷ xs) a b h = by_case (λ k. collected_key partitio
   by_case rest true h = kept_key partition x b h
   by_case rest false h = rest h
 
-keyed_source : (part : CheckedClauses) (places : List ℕ) (a b : ℕ) → state_of part ≡ K.Keyed places → source_of part a ≡ Some b → list_any (λ p. p == b) places ≡ true
+keyed_source : (part : CheckedClauses) (places : List ℕ) (a b : ℕ) → state_by part ≡ K.Keyed places → source_of part a ≡ Some b → list_any (λ p. p == b) places ≡ true
 keyed_source (A.FileSource file strict) places a b is h = absurd cc
 keyed_source (A.FileSink file) places a b is h = absurd cc
 keyed_source (A.Filter condition) places a b is h = absurd cc
@@ -167,7 +167,7 @@ pub plain_state : (state own : StateKind) → own ≡ state → (state ≡ K.Sta
 plain_state state own e (inl is) = ap is_keyed (e ∙ is)
 plain_state state own e (inr is) = ap is_keyed (e ∙ is)
 
-pub plain_longer : (g : Graph) (old : Growing) (n : ℕ) (o : Operator) (new : Growing) → slice_get g.ops n ≡ Some o → is_keyed (state_of o.clauses) ≡ false → IsGrown g old
+pub plain_longer : (g : Graph) (old : Growing) (n : ℕ) (o : Operator) (new : Growing) → slice_get g.ops n ≡ Some o → is_keyed (state_of o) ≡ false → IsGrown g old
     → new ≡ added o n old → IsLonger g old n new
 plain_longer g old n o new at plain h is = subst (IsLonger g old n) (sym is) (record { ops = refl; grown = grown }) where
   twice : (found : Option ℕ)
@@ -193,7 +193,7 @@ plain_longer g old n o new at plain h is = subst (IsLonger g old n) (sym is) (re
 
 -- the key with a Keyed one
 pub key_is : (g : Graph) (old : Growing) (n : ℕ) (o : Operator) (places : List ℕ) (sources : List KeySource) (key : List ℕ) → slice_get g.ops n ≡ Some o
-    → state_of o.clauses ≡ K.Keyed places → IsGrown g old → sources ≡ map (key_source g old.ops) places
+    → state_of o ≡ K.Keyed places → IsGrown g old → sources ≡ map (key_source g old.ops) places
     → key ≡ key_with old sources (entry_attributes (ops_of g (old.ops ++ n ∷ []))) → key ≡ chain_key (ops_of g (old.ops ++ n ∷ []))
 key_is g old n o places sources key at is h from k =
     let more = ops_last g old.ops n o at in
@@ -206,14 +206,14 @@ key_is g old n o places sources key at is h from k =
     ∙ ap (λ ops. filter (has_copy (traced g old.ops) (K.Keyed places)) (if any_keyed before then chain_key before else entry_attributes ops)) more
     ∙ sym (ap chain_key more ∙ key_narrows before o places is)
 
-safe_is : (g : Graph) (old : Growing) (n : ℕ) (o : Operator) (places key : List ℕ) → slice_get g.ops n ≡ Some o → state_of o.clauses ≡ K.Keyed places
+safe_is : (g : Graph) (old : Growing) (n : ℕ) (o : Operator) (places key : List ℕ) → slice_get g.ops n ≡ Some o → state_of o ≡ K.Keyed places
     → key ≡ chain_key (ops_of g (old.ops ++ n ∷ [])) → has_key (ops_of g (old.ops ++ n ∷ [])) ≡ not (is_empty key)
 safe_is g old n o places key at is k =
     ap has_key (ops_last g old.ops n o at) ∙ safe_narrows (ops_of g old.ops) o places is
     ∙ ap (λ key. not (is_empty key)) (sym (k ∙ ap chain_key (ops_last g old.ops n o at)))
 
 -- where it is empty
-pub no_key : (g : Graph) (old : Growing) (n : ℕ) (o : Operator) (places key : List ℕ) → slice_get g.ops n ≡ Some o → state_of o.clauses ≡ K.Keyed places
+pub no_key : (g : Graph) (old : Growing) (n : ℕ) (o : Operator) (places key : List ℕ) → slice_get g.ops n ≡ Some o → state_of o ≡ K.Keyed places
     → key ≡ chain_key (ops_of g (old.ops ++ n ∷ [])) → key ≡ [] → has_key (ops_of g (old.ops ++ n ∷ [])) ≡ false
 no_key g old n o places key at is k none = safe_is g old n o places key at is k ∙ ap (λ key. not (is_empty key)) none
 
@@ -223,7 +223,7 @@ some_key (a ∷ key) h = refl
 
 -- and where it isn't
 pub keyed_longer : (g : Graph) (old : Growing) (n : ℕ) (o : Operator) (places : List ℕ) (sources : List KeySource) (key segment : List ℕ) (new : Growing) → slice_get g.ops n ≡ Some o
-    → state_of o.clauses ≡ K.Keyed places → IsGrown g old → sources ≡ map (key_source g old.ops) places → key ≡ chain_key (ops_of g (old.ops ++ n ∷ [])) → (key ≡ [] → ⊥)
+    → state_of o ≡ K.Keyed places → IsGrown g old → sources ≡ map (key_source g old.ops) places → key ≡ chain_key (ops_of g (old.ops ++ n ∷ [])) → (key ≡ [] → ⊥)
     → segment ≡ [] → new ≡ added o n (record { ops = old.ops; key = key; keyed = true; one_each = old.one_each; segment = segment; sources = sources }) → IsLonger g old n new
 keyed_longer g old n o places sources key segment new at is h from k some emptied made_so =
     subst (IsLonger g old n)

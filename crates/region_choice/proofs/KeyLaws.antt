@@ -21,7 +21,7 @@ use Rattle.stream_model.specs.Stream.{is_empty}
 use Rattle.region_choice.specs.declared.keys.KeySource.{KeySource}
 use Rattle.region_choice.specs.steps.GraphChains.{has_key}
 use Rattle.region_choice.specs.steps.Keys.{is_copied}
-use Rattle.attribute_flow.proofs.Chaining.{and_then_twice, ops_last}
+use Rattle.attribute_flow.proofs.Chaining.{and_then_twice}
 use Rattle.std.proofs.Math.Bool.{and_assoc}
 
 -- ---- tests
@@ -51,15 +51,15 @@ abbrev pub clauses : List Operator → List CheckedClauses
 clauses ops = map (λ (op : Operator). op.clauses) ops
 
 have_more : (source : ℕ → Option ℕ) (ops : List Operator) (o : Operator) (a : ℕ)
-    → all_have source (ops ++ o ∷ []) a ≡ (all_have source ops a && has_copy (λ p. option_and_then source (trace (clauses ops) p)) (state_of o.clauses) a)
-have_more source [] o a = and_true (has_copy source (state_of o.clauses) a)
+    → all_have source (ops ++ o ∷ []) a ≡ (all_have source ops a && has_copy (λ p. option_and_then source (trace (clauses ops) p)) (state_of o) a)
+have_more source [] o a = and_true (has_copy source (state_of o) a)
 have_more source (op ∷ ops) o a =
     let inner : ℕ → Option ℕ = λ p. option_and_then source (source_of op.clauses p) in
-    ap (λ b. has_copy source (state_of op.clauses) a && b) (have_more inner ops o a)
-    ∙ ap (λ (f : ℕ → Option ℕ). has_copy source (state_of op.clauses) a && (all_have inner ops a && has_copy f (state_of o.clauses) a))
+    ap (λ b. has_copy source (state_of op) a && b) (have_more inner ops o a)
+    ∙ ap (λ (f : ℕ → Option ℕ). has_copy source (state_of op) a && (all_have inner ops a && has_copy f (state_of o) a))
     (fun_ext (λ p. sym (and_then_twice source (source_of op.clauses) (trace (clauses ops) p))))
-    ∙ sym (and_assoc (has_copy source (state_of op.clauses) a) (all_have inner ops a)
-    (has_copy (λ p. option_and_then source (trace (clauses (op ∷ ops)) p)) (state_of o.clauses) a))
+    ∙ sym (and_assoc (has_copy source (state_of op) a) (all_have inner ops a)
+    (has_copy (λ p. option_and_then source (trace (clauses (op ∷ ops)) p)) (state_of o) a))
 
 and_then_some : (found : Option ℕ) → option_and_then (λ a. Some a) found ≡ found
 and_then_some None = refl
@@ -67,10 +67,10 @@ and_then_some (Some a) = refl
 
 -- from the entry of the chain
 pub entry_more : (ops : List Operator) (o : Operator) (a : ℕ)
-    → all_have (λ a. Some a) (ops ++ o ∷ []) a ≡ (all_have (λ a. Some a) ops a && has_copy (trace (clauses ops)) (state_of o.clauses) a)
+    → all_have (λ a. Some a) (ops ++ o ∷ []) a ≡ (all_have (λ a. Some a) ops a && has_copy (trace (clauses ops)) (state_of o) a)
 entry_more ops o a =
     have_more (λ a. Some a) ops o a
-    ∙ ap (λ (f : ℕ → Option ℕ). all_have (λ a. Some a) ops a && has_copy f (state_of o.clauses) a) (fun_ext (λ p. and_then_some (trace (clauses ops) p)))
+    ∙ ap (λ (f : ℕ → Option ℕ). all_have (λ a. Some a) ops a && has_copy f (state_of o) a) (fun_ext (λ p. and_then_some (trace (clauses ops) p)))
 
 -- who isn't Keyed asks for no copy
 not_keyed : (source : ℕ → Option ℕ) (state : StateKind) (a : ℕ) → is_keyed state ≡ false → has_copy source state a ≡ true
@@ -81,25 +81,25 @@ not_keyed source K.Whole a h = refl
 none_keyed : (source : ℕ → Option ℕ) (ops : List Operator) (a : ℕ) → any_keyed ops ≡ false → all_have source ops a ≡ true
 none_keyed source [] a h = refl
 none_keyed source (op ∷ ops) a h =
-    by_case (λ k. none_keyed (λ p. option_and_then source (source_of op.clauses p)) ops a k) (is_keyed (state_of op.clauses)) refl h where
-      by_case : (any_keyed ops ≡ false → all_have (λ p. option_and_then source (source_of op.clauses p)) ops a ≡ true) → (b : Bool) → is_keyed (state_of op.clauses) ≡ b
+    by_case (λ k. none_keyed (λ p. option_and_then source (source_of op.clauses p)) ops a k) (is_keyed (state_of op)) refl h where
+      by_case : (any_keyed ops ≡ false → all_have (λ p. option_and_then source (source_of op.clauses p)) ops a ≡ true) → (b : Bool) → is_keyed (state_of op) ≡ b
           → (b || any_keyed ops) ≡ false → all_have source (op ∷ ops) a ≡ true
       by_case rest true e h = absurd cc
       by_case rest false e h =
-          ap (λ b. b && all_have (λ p. option_and_then source (source_of op.clauses p)) ops a) (not_keyed source (state_of op.clauses) a e) ∙ rest h
+          ap (λ b. b && all_have (λ p. option_and_then source (source_of op.clauses p)) ops a) (not_keyed source (state_of op) a e) ∙ rest h
 
 -- ---- one operator more
 
-pub keyed_more : (ops : List Operator) (o : Operator) → any_keyed (ops ++ o ∷ []) ≡ (any_keyed ops || is_keyed (state_of o.clauses))
+pub keyed_more : (ops : List Operator) (o : Operator) → any_keyed (ops ++ o ∷ []) ≡ (any_keyed ops || is_keyed (state_of o))
 keyed_more ops o =
-    list_any-append (λ (op : Operator). is_keyed (state_of op.clauses)) ops (o ∷ []) ∙ ap (λ b. any_keyed ops || b) (or_false (is_keyed (state_of o.clauses)))
+    list_any-append (λ (op : Operator). is_keyed (state_of op)) ops (o ∷ []) ∙ ap (λ b. any_keyed ops || b) (or_false (is_keyed (state_of o)))
 
 pub or_true : (b : Bool) → (b || true) ≡ true
 or_true true = refl
 or_true false = refl
 
 -- that isn't Keyed
-pub key_stays : (ops : List Operator) (o : Operator) → is_keyed (state_of o.clauses) ≡ false → chain_key (ops ++ o ∷ []) ≡ chain_key ops
+pub key_stays : (ops : List Operator) (o : Operator) → is_keyed (state_of o) ≡ false → chain_key (ops ++ o ∷ []) ≡ chain_key ops
 key_stays [] o h = ap (λ b. if b || false then filter (all_have (λ a. Some a) (o ∷ [])) (entry_attributes (o ∷ [])) else []) h
 key_stays (first ∷ ops) o h =
     let keyed : any_keyed (first ∷ ops ++ o ∷ []) ≡ any_keyed (first ∷ ops) =
@@ -107,13 +107,13 @@ key_stays (first ∷ ops) o h =
     let have : filter (all_have (λ a. Some a) (first ∷ ops ++ o ∷ [])) (entry_attributes (first ∷ ops)) ≡ filter (all_have (λ a. Some a) (first ∷ ops)) (entry_attributes (first ∷ ops)) =
     filter_same (all_have (λ a. Some a) (first ∷ ops ++ o ∷ [])) (all_have (λ a. Some a) (first ∷ ops)) (entry_attributes (first ∷ ops))
     (λ a. entry_more (first ∷ ops) o a
-    ∙ ap (λ b. all_have (λ a. Some a) (first ∷ ops) a && b) (not_keyed (trace (clauses (first ∷ ops))) (state_of o.clauses) a h)
+    ∙ ap (λ b. all_have (λ a. Some a) (first ∷ ops) a && b) (not_keyed (trace (clauses (first ∷ ops))) (state_of o) a h)
     ∙ and_true (all_have (λ a. Some a) (first ∷ ops) a)) in
     ap (λ b. if b then filter (all_have (λ a. Some a) (first ∷ ops ++ o ∷ [])) (entry_attributes (first ∷ ops)) else []) keyed
     ∙ ap (λ key. if any_keyed (first ∷ ops) then key else []) have
 
 -- that is Keyed: of the key so far, or of all attributes, those of which one of its keys is a copy
-pub key_narrows : (ops : List Operator) (o : Operator) (places : List ℕ) → state_of o.clauses ≡ K.Keyed places
+pub key_narrows : (ops : List Operator) (o : Operator) (places : List ℕ) → state_of o ≡ K.Keyed places
     → chain_key (ops ++ o ∷ []) ≡ filter (has_copy (trace (clauses ops)) (K.Keyed places)) (if any_keyed ops then chain_key ops else entry_attributes (ops ++ o ∷ []))
 key_narrows ops o places is = keyed_now ∙ by_case (any_keyed ops) refl where
   test : ℕ → Bool
@@ -146,12 +146,12 @@ key_narrows ops o places is = keyed_now ∙ by_case (any_keyed ops) refl where
 
 -- ---- whether there is a key
 
-pub safe_stays : (ops : List Operator) (o : Operator) → is_keyed (state_of o.clauses) ≡ false → has_key (ops ++ o ∷ []) ≡ has_key ops
+pub safe_stays : (ops : List Operator) (o : Operator) → is_keyed (state_of o) ≡ false → has_key (ops ++ o ∷ []) ≡ has_key ops
 safe_stays ops o h =
     ap (λ b. not b || not (is_empty (chain_key (ops ++ o ∷ [])))) (keyed_more ops o ∙ ap (λ b. any_keyed ops || b) h ∙ or_false (any_keyed ops))
     ∙ ap (λ key. not (any_keyed ops) || not (is_empty key)) (key_stays ops o h)
 
-pub safe_narrows : (ops : List Operator) (o : Operator) (places : List ℕ) → state_of o.clauses ≡ K.Keyed places → has_key (ops ++ o ∷ []) ≡ not (is_empty (chain_key (ops ++ o ∷ [])))
+pub safe_narrows : (ops : List Operator) (o : Operator) (places : List ℕ) → state_of o ≡ K.Keyed places → has_key (ops ++ o ∷ []) ≡ not (is_empty (chain_key (ops ++ o ∷ [])))
 safe_narrows ops o places is =
     ap (λ b. not b || not (is_empty (chain_key (ops ++ o ∷ []))))
     (keyed_more ops o ∙ ap (λ (state : StateKind). any_keyed ops || is_keyed state) is ∙ or_true (any_keyed ops))
@@ -162,8 +162,8 @@ not_empty_before f (x ∷ xs) h = refl
 
 -- with an operator less there is a key too
 one_fewer : (ops : List Operator) (o : Operator) → has_key (ops ++ o ∷ []) ≡ true → has_key ops ≡ true
-one_fewer ops o h = by_state (state_of o.clauses) refl where
-  by_keyed : (places : List ℕ) → state_of o.clauses ≡ K.Keyed places → (b : Bool) → any_keyed ops ≡ b → has_key ops ≡ true
+one_fewer ops o h = by_state (state_of o) refl where
+  by_keyed : (places : List ℕ) → state_of o ≡ K.Keyed places → (b : Bool) → any_keyed ops ≡ b → has_key ops ≡ true
   by_keyed places is false e = ap (λ b. not b || not (is_empty (chain_key ops))) e
   by_keyed places is true e =
       let narrowed : not (is_empty (filter (has_copy (trace (clauses ops)) (K.Keyed places)) (chain_key ops))) ≡ true =
@@ -171,7 +171,7 @@ one_fewer ops o h = by_state (state_of o.clauses) refl where
       ∙ ap (λ b. filter (has_copy (trace (clauses ops)) (K.Keyed places)) (if b then chain_key ops else entry_attributes (ops ++ o ∷ []))) e)) ∙ h in
       ap (λ b. not b || not (is_empty (chain_key ops))) e ∙ not_empty_before (has_copy (trace (clauses ops)) (K.Keyed places)) (chain_key ops) narrowed
 
-  by_state : (state : StateKind) → state_of o.clauses ≡ state → has_key ops ≡ true
+  by_state : (state : StateKind) → state_of o ≡ state → has_key ops ≡ true
   by_state K.Stateless is = sym (safe_stays ops o (ap is_keyed is)) ∙ h
   by_state (K.Keyed places) is = by_keyed places is (any_keyed ops) refl
   by_state K.Whole is = sym (safe_stays ops o (ap is_keyed is)) ∙ h
@@ -199,10 +199,10 @@ one_passes f a (suc n) lt h = ap is_empty (filter-append f (numbers_to n) (n ∷
       not_empty_right (filter f (numbers_to n)) (filter f (n ∷ [])) (ap (λ b. is_empty (if b then n ∷ [] else [])) last)
   by_case further (inr other) = not_empty_left (filter f (numbers_to n)) (filter f (n ∷ [])) (further (omega arith))
 
-pub alone_safe : (o : Operator) → ((places : List ℕ) → state_of o.clauses ≡ K.Keyed places → (p : ℕ) × (slice_get places 0 ≡ Some p) × (p < length (input_attributes o 0)))
+pub alone_safe : (o : Operator) → ((places : List ℕ) → state_of o ≡ K.Keyed places → (p : ℕ) × (slice_get places 0 ≡ Some p) × (p < length (input_attributes o 0)))
     → has_key (o ∷ []) ≡ true
-alone_safe o keys = by_state (state_of o.clauses) refl where
-  by_state : (state : StateKind) → state_of o.clauses ≡ state → has_key (o ∷ []) ≡ true
+alone_safe o keys = by_state (state_of o) refl where
+  by_state : (state : StateKind) → state_of o ≡ state → has_key (o ∷ []) ≡ true
   by_state K.Stateless is = ap (λ state. not (is_keyed state || false) || not (is_empty (chain_key (o ∷ [])))) is
   by_state K.Whole is = ap (λ state. not (is_keyed state || false) || not (is_empty (chain_key (o ∷ [])))) is
   by_state (K.Keyed places) is =

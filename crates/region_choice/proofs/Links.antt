@@ -10,7 +10,7 @@ use Rattle.stream_model.specs.Meaning.{Graph}
 use Rattle.stream_model.specs.Operators.{Operator, connections}
 use Rattle.stream_model.specs.Regions.{follows, is_chain, is_eligible}
 use Rattle.stream_model.proofs.parts.Regions.{is_one, readings, reads}
-use Rattle.stream_model.specs.StateKinds.{is_whole, state_of}
+use Rattle.stream_model.specs.StateKinds.{is_whole_state, state_of}
 use Rattle.region_choice.specs.steps.GraphChains.{is_pair}
 use Rattle.region_choice.proofs.KeyLaws.{and_true}
 
@@ -26,15 +26,15 @@ pub record Ports (op : Operator) : Type 0 where
   pub output : ℕ
   pub reads : connections op ≡ input ∷ []
   pub gives : op.outs ≡ output ∷ []
-  pub state : is_whole (state_of op.clauses) ≡ false
+  pub state : is_whole_state (state_of op) ≡ false
 
 pub ports_of : (op : Operator) → is_eligible op ≡ true → Ports op
 ports_of op h =
-    let first = and_parts (is_one (connections op)) (is_one op.outs && not (is_whole (state_of op.clauses))) h in
-    let second = and_parts (is_one op.outs) (not (is_whole (state_of op.clauses))) first.1 in
+    let first = and_parts (is_one (connections op)) (is_one op.outs && not (is_whole_state (state_of op))) h in
+    let second = and_parts (is_one op.outs) (not (is_whole_state (state_of op))) first.1 in
     let input = one_item (connections op) first.0 in
     let output = one_item op.outs second.0 in
-    record { input = input.0; output = output.0; reads = input.1; gives = output.1; state = negated (is_whole (state_of op.clauses)) second.1 }
+    record { input = input.0; output = output.0; reads = input.1; gives = output.1; state = negated (is_whole_state (state_of op)) second.1 }
   where
     negated : (b : Bool) → not b ≡ true → b ≡ false
     negated true h = absurd cc

@@ -20,10 +20,10 @@ use Rattle.stream_model.specs.Meaning.{Graph}
 use Rattle.stream_model.specs.Operators.{Operator, connections}
 use Rattle.stream_model.specs.Regions.{IsPlan, is_eligible, ops_of}
 use Rattle.stream_model.proofs.parts.Regions.{is_one, readings}
-use Rattle.stream_model.specs.StateKinds.{is_whole, state_of}
+use Rattle.stream_model.specs.StateKinds.{is_whole_state, state_of}
 use Rattle.region_choice.specs.declared.choice.Choice.{Choice}
 use Rattle.region_choice.specs.declared.growing.Growing.{Growing}
-use Rattle.region_choice.specs.steps.Choices.{ending_at, ending_with, is_among, is_last, IsCandidate, IsOutside, IsPlaced, IsSettled, IsStanding, NoneTakes, numbers_of, region_before, sole_maker}
+use Rattle.region_choice.specs.steps.Choices.{ending_at, ending_with, is_among, is_op_last, IsCandidate, IsOutside, IsPlaced, IsSettled, IsStanding, NoneTakes, numbers_of, region_before, sole_maker}
 use Rattle.region_choice.specs.steps.Choosing.{Chains, chosen, chosen_from, last_of, placed, placed_if, takes}
 use Rattle.region_choice.specs.steps.Counting.{AreReadings}
 use Rattle.region_choice.specs.steps.GraphChains.{chains_of, has_key, is_pair}
@@ -98,7 +98,7 @@ last_among : (a : ℕ) (rest : List ℕ) → is_among (last_of a rest) (a ∷ re
 last_among a [] = or_left (a == a) false (eq-eqb a a refl)
 last_among a (b ∷ rest) = or_right (a == last_of b rest) (is_among (last_of b rest) (b ∷ rest)) (last_among b rest)
 
-last_is : (a n : ℕ) (rest : List ℕ) → is_last n (a ∷ rest) ≡ (last_of a rest == n)
+last_is : (a n : ℕ) (rest : List ℕ) → is_op_last n (a ∷ rest) ≡ (last_of a rest == n)
 last_is a n rest =
     let place : length (a ∷ rest) - 1 ≡ length rest = omega arith in
     ap (λ k. option_map_or (λ m. m == n) (slice_get (a ∷ rest) k) false) place ∙ ap (λ found. option_map_or (λ m. m == n) found false) (last_at a rest)
@@ -124,9 +124,9 @@ module _ (c : CheckedGraph) (g : Graph) (keeps : Keeps c) (same : graph_of c ≡
       ∙ ap (λ found. option_map (λ (made : Stream). made.maker) found) maker in
       let among : is_among (last_of a rest) r.ops ≡ true = ap (is_among (last_of a rest)) ops ∙ last_among a rest in
       let place : slice_get choice.places (last_of a rest) ≡ Some (Some i) = standing.placed i r (last_of a rest) at among in
-      let last : is_last (last_of a rest) r.ops ≡ true = ap (is_last (last_of a rest)) ops ∙ last_is a (last_of a rest) rest ∙ eq-eqb (last_of a rest) (last_of a rest) refl in
+      let last : is_op_last (last_of a rest) r.ops ≡ true = ap (is_op_last (last_of a rest)) ops ∙ last_is a (last_of a rest) rest ∙ eq-eqb (last_of a rest) (last_of a rest) refl in
       let ending : ending_at choice.regions (last_of a rest) i ≡ Some i =
-      ap (option_and_then (λ (r : Growing). if is_last (last_of a rest) r.ops then Some i else None)) at ∙ ap (λ b. if b then Some i else None) last in
+      ap (option_and_then (λ (r : Growing). if is_op_last (last_of a rest) r.ops then Some i else None)) at ∙ ap (λ b. if b then Some i else None) last in
       ap (option_and_then (ending_with choice)) sole
       ∙ ap (λ found. option_and_then (λ (place : Option ℕ). option_and_then (ending_at choice.regions (last_of a rest)) place) found) place ∙ ending
 
@@ -184,7 +184,7 @@ module _ (c : CheckedGraph) (g : Graph) (keeps : Keeps c) (same : graph_of c ≡
 
   maker_found : (m at : ℕ) → sole_maker c.graph.streams counts stream ≡ Some m → ending_with choice m ≡ Some at → Found at
   maker_found m at sole ending = by_place (slice_get choice.places m) refl ending where
-    by_last : (r : Growing) (ops : List ℕ) → slice_get choice.regions at ≡ Some r → r.ops ≡ ops → is_last m ops ≡ true → Found at
+    by_last : (r : Growing) (ops : List ℕ) → slice_get choice.regions at ≡ Some r → r.ops ≡ ops → is_op_last m ops ≡ true → Found at
     by_last r [] there e last = absurd cc
     by_last r (a ∷ rest) there e last =
         let is : last_of a rest ≡ m = eqb-true (last_of a rest) m (sym (last_is a m rest) ∙ last) in
@@ -199,10 +199,10 @@ module _ (c : CheckedGraph) (g : Graph) (keeps : Keeps c) (same : graph_of c ≡
               ∙ ap (λ (ops : List ℕ). has_key (ops_of g (ops ++ n ∷ []))) (sym e);
         }
 
-    by_region : (k : ℕ) (found : Option Growing) → slice_get choice.regions k ≡ found → option_and_then (λ (r : Growing). if is_last m r.ops then Some k else None) found ≡ Some at → Found at
+    by_region : (k : ℕ) (found : Option Growing) → slice_get choice.regions k ≡ found → option_and_then (λ (r : Growing). if is_op_last m r.ops then Some k else None) found ≡ Some at → Found at
     by_region k None e h = absurd cc
-    by_region k (Some r) e h = by_test (is_last m r.ops) refl h where
-      by_test : (b : Bool) → is_last m r.ops ≡ b → (if b then Some k else None) ≡ Some at → Found at
+    by_region k (Some r) e h = by_test (is_op_last m r.ops) refl h where
+      by_test : (b : Bool) → is_op_last m r.ops ≡ b → (if b then Some k else None) ≡ Some at → Found at
       by_test true last h = let here : k ≡ at = cc in by_last r r.ops (subst (λ k. slice_get choice.regions k ≡ Some r) here e) refl last
       by_test false last h = absurd cc
 
@@ -254,10 +254,10 @@ module _ (c : CheckedGraph) (g : Graph) (keeps : Keeps c) (same : graph_of c ≡
 -- the place that is found is one of a region
 pub before_within : (streams : List Stream) (counts : List ℕ) (choice : Choice) (s at : ℕ) → region_before streams counts choice s ≡ Some at → at < length choice.regions
 before_within streams counts choice s at h = by_maker (sole_maker streams counts s) h where
-  by_region : (m k : ℕ) (found : Option Growing) → slice_get choice.regions k ≡ found → option_and_then (λ (r : Growing). if is_last m r.ops then Some k else None) found ≡ Some at
+  by_region : (m k : ℕ) (found : Option Growing) → slice_get choice.regions k ≡ found → option_and_then (λ (r : Growing). if is_op_last m r.ops then Some k else None) found ≡ Some at
       → at < length choice.regions
   by_region m k None e h = absurd cc
-  by_region m k (Some r) e h = by_test (is_last m r.ops) h where
+  by_region m k (Some r) e h = by_test (is_op_last m r.ops) h where
     by_test : (b : Bool) → (if b then Some k else None) ≡ Some at → at < length choice.regions
     by_test true h = let here : k ≡ at = cc in subst (λ k. k < length choice.regions) here (get_within choice.regions k r e)
     by_test false h = absurd cc
@@ -475,24 +475,24 @@ input_none ins [] b some h = and_right (is_one (concat ins)) false refl
 input_none ins (t ∷ []) b some h = and_left (is_one (concat ins)) b (stream_none ins some h)
 input_none ins (t ∷ u ∷ outs) b some h = and_right (is_one (concat ins)) false refl
 
-eligible_with : (o : Operator) (s : ℕ) → (concat o.ins ≡ s ∷ []) × (is_one o.outs ≡ true) → is_whole (state_of o.clauses) ≡ false → (is_eligible o ≡ true) × (connections o ≡ s ∷ [])
+eligible_with : (o : Operator) (s : ℕ) → (concat o.ins ≡ s ∷ []) × (is_one o.outs ≡ true) → is_whole_state (state_of o) ≡ false → (is_eligible o ≡ true) × (connections o ≡ s ∷ [])
 eligible_with o s h state = (
-  and_from (is_one (connections o)) (is_one o.outs && not (is_whole (state_of o.clauses))) (ap is_one h.0)
-      (and_from (is_one o.outs) (not (is_whole (state_of o.clauses))) h.1 (ap not state)),
+  and_from (is_one (connections o)) (is_one o.outs && not (is_whole_state (state_of o))) (ap is_one h.0)
+      (and_from (is_one o.outs) (not (is_whole_state (state_of o))) h.1 (ap not state)),
   h.0,
 )
 
-pub entry_some : (o : Operator) (state : StateKind) (s : ℕ) → state_of o.clauses ≡ state → entry_of o.ins o.outs state ≡ Some s → (is_eligible o ≡ true) × (connections o ≡ s ∷ [])
-entry_some o S.Stateless s is h = eligible_with o s (input_some o.ins o.outs s h) (ap is_whole is)
-entry_some o (S.Keyed places) s is h = eligible_with o s (input_some o.ins o.outs s h) (ap is_whole is)
+pub entry_some : (o : Operator) (state : StateKind) (s : ℕ) → state_of o ≡ state → entry_of o.ins o.outs state ≡ Some s → (is_eligible o ≡ true) × (connections o ≡ s ∷ [])
+entry_some o S.Stateless s is h = eligible_with o s (input_some o.ins o.outs s h) (ap is_whole_state is)
+entry_some o (S.Keyed places) s is h = eligible_with o s (input_some o.ins o.outs s h) (ap is_whole_state is)
 entry_some o S.Whole s is h = absurd cc
 
-entry_none : (o : Operator) (state : StateKind) → SomeInEach o.ins → state_of o.clauses ≡ state → entry_of o.ins o.outs state ≡ None → is_eligible o ≡ false
-entry_none o S.Stateless some is h = input_none o.ins o.outs (not (is_whole (state_of o.clauses))) some h
-entry_none o (S.Keyed places) some is h = input_none o.ins o.outs (not (is_whole (state_of o.clauses))) some h
+entry_none : (o : Operator) (state : StateKind) → SomeInEach o.ins → state_of o ≡ state → entry_of o.ins o.outs state ≡ None → is_eligible o ≡ false
+entry_none o S.Stateless some is h = input_none o.ins o.outs (not (is_whole_state (state_of o))) some h
+entry_none o (S.Keyed places) some is h = input_none o.ins o.outs (not (is_whole_state (state_of o))) some h
 entry_none o S.Whole some is h =
-    and_right (is_one (connections o)) (is_one o.outs && not (is_whole (state_of o.clauses)))
-    (and_right (is_one o.outs) (not (is_whole (state_of o.clauses))) (ap (λ state. not (is_whole state)) is))
+    and_right (is_one (connections o)) (is_one o.outs && not (is_whole_state (state_of o)))
+    (and_right (is_one o.outs) (not (is_whole_state (state_of o))) (ap (λ state. not (is_whole_state state)) is))
 
 -- an operator of the graph by its number
 pub by_number : (c : CheckedGraph) (g : Graph) → Keeps c → graph_of c ≡ g → (n : ℕ) → n < length c.parts → (o : Operator) × (slice_get g.ops n ≡ Some o)
@@ -500,7 +500,7 @@ by_number c g keeps e n within = get_below g.ops n (let same = same_length c g k
 
 -- that reads this stream and may stand in a region
 pub candidate : (c : CheckedGraph) (g : Graph) → Keeps c → graph_of c ≡ g → (counts : List ℕ) (n stream : ℕ) (state : StateKind) (o : Operator) → AreReadings g counts
-    → length counts ≡ length c.graph.streams → slice_get g.ops n ≡ Some o → state_of o.clauses ≡ state → entry_of o.ins o.outs state ≡ Some stream → IsCandidate g counts n stream state o
+    → length counts ≡ length c.graph.streams → slice_get g.ops n ≡ Some o → state_of o ≡ state → entry_of o.ins o.outs state ≡ Some stream → IsCandidate g counts n stream state o
 candidate c g keeps e counts n stream state o counted many at is h =
     let may = entry_some o state stream is h in
     let own = operator_at c g e n o at in
@@ -516,7 +516,7 @@ settled g old n new eligible h = record { standing = h.standing; numbers = h.num
 
 -- and one that may not
 pub passed_over : (c : CheckedGraph) (g : Graph) → Keeps c → graph_of c ≡ g → (old : Choice) (n : ℕ) (state : StateKind) (o : Operator) → IsStanding g old → slice_get g.ops n ≡ Some o
-    → state_of o.clauses ≡ state → entry_of o.ins o.outs state ≡ None → IsSettled g old n old
+    → state_of o ≡ state → entry_of o.ins o.outs state ≡ None → IsSettled g old n old
 passed_over c g keeps e old n state o standing at is h =
     let own = operator_at c g e n o at in
     let fit = keeps.operators n own.op own.part own.there own.has in

@@ -19,7 +19,7 @@ use Rattle.stream_model.specs.Meaning.{Graph}
 use Rattle.stream_model.specs.Operators.{Operator, connections}
 use Rattle.stream_model.specs.Regions.{is_eligible, ops_of}
 use Rattle.stream_model.proofs.parts.Regions.{readings}
-use Rattle.stream_model.specs.StateKinds.{state_of}
+use Rattle.stream_model.specs.StateKinds.{state_by}
 use Rattle.stream_model.specs.parts.StateKinds.{has_mutable}
 use Rattle.stream_model.specs.Windows.{flushes_at_markers}
 use Rattle.stream_model.proofs.CheckedOperators.{checked_fits}
@@ -96,7 +96,7 @@ aggregate_keyed true false partition places h = absurd cc
 aggregate_keyed false q partition places h = absurd cc
 
 -- a Keyed operator has a key among its attributes
-first_key : (scope : Scope) (kind : OpKind) (ins outs : List Attributes) (part : CheckedClauses) (places : List ℕ) → PartFits scope kind ins outs part → state_of part ≡ S.Keyed places
+first_key : (scope : Scope) (kind : OpKind) (ins outs : List Attributes) (part : CheckedClauses) (places : List ℕ) → PartFits scope kind ins outs part → state_by part ≡ S.Keyed places
     → (p : ℕ) × (slice_get places 0 ≡ Some p) × (p < length (unwrap_or (slice_get ins 0) []))
 first_key scope _ _ _ _ places (K.file_source file strict schema a b) is = absurd cc
 first_key scope _ _ _ _ places (K.file_sink file schema a b) is = absurd cc

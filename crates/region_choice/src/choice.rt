@@ -9,7 +9,7 @@ ghost use Rattle.stream_model.specs.StateKinds.{state_of};
 ghost use Rattle.region_choice.specs.steps.Counting.{AreReadings};
 ghost use Rattle.region_choice.specs.steps.Growing.{region_of};
 ghost use Rattle.region_choice.specs.steps.Ports.{entry_of};
-ghost use Rattle.region_choice.specs.steps.Choices.{ending_at, ending_with, is_last, IsCandidate, IsOutside, IsPlaced, IsSettled, IsStanding, Joins, NoneTakes, region_before, sole_maker};
+ghost use Rattle.region_choice.specs.steps.Choices.{ending_at, ending_with, is_op_last, IsCandidate, IsOutside, IsPlaced, IsSettled, IsStanding, Joins, NoneTakes, region_before, sole_maker};
 
 use crate::connections::readings;
 use crate::growing::{Growing, grow, nothing, region_of};
@@ -52,8 +52,8 @@ fn sole_maker(checked: &Checked, counts: &Items<u32>, stream: u32) -> Option<u32
     }
 }
 
-fn is_last(op: u32, ops: &Ids) -> bool
-    ensures { result ≡ is_last op ops.now }
+fn is_op_last(op: u32, ops: &Ids) -> bool
+    ensures { result ≡ is_op_last op ops.now }
 {
     match ops.as_slice().last() {
         Some(last) => *last == op,
@@ -67,7 +67,7 @@ fn ending_at(regions: &Items<Growing>, op: u32, at: usize) -> Option<usize>
 {
     match regions.get(at) {
         Some(region) => {
-            if is_last(op, &region.ops) {
+            if is_op_last(op, &region.ops) {
                 Some(at)
             } else {
                 None
@@ -141,7 +141,7 @@ fn begin(
     requires number { op < length checked.now.parts }
     requires standing { (g : Graph) → graph_of checked.now ≡ g → IsStanding g choice.old }
     ensures { IfOk result (λ _. (g : Graph) (o : Operator) → graph_of checked.now ≡ g → slice_get g.ops op ≡ Some o → is_eligible o ≡ true
-        → state_of o.clauses ≡ state.now → IsOutside choice.old op → NoneTakes g choice.old op
+        → state_of o ≡ state.now → IsOutside choice.old op → NoneTakes g choice.old op
         → IsPlaced g choice.old op choice.new) }
 {
     let mut region = nothing(alloc);

@@ -8,7 +8,7 @@ ghost use Rattle.stream_model.specs.Regions.{entry_attributes, numbers_to, ops_o
 ghost use Rattle.stream_model.specs.parts.Regions.{is_one_each};
 ghost use Rattle.stream_model.specs.StateKinds.{state_of};
 ghost use Rattle.stream_model.specs.declared.plan.StateKind.TheVariants as K;
-ghost use Rattle.region_choice.specs.steps.Growing.{added, first_of, Grows, IsGrown, key_source, key_with, LeadsBack, merge_of, nothing, region_of};
+ghost use Rattle.region_choice.specs.steps.Growing.{added, first_or, Grows, IsGrown, key_source, key_with, LeadsBack, merge_of, nothing, region_of};
 
 use crate::keys::{KeySource, first_key, kept_key, source_at};
 use crate::operators::input_width;
@@ -81,8 +81,8 @@ fn key_sources(
 }
 
 /// The first of these operators, or else the one after them.
-fn first_of(op: u32, ops: &Ids) -> u32
-    ensures { result ≡ first_of op ops.now }
+fn first_or(op: u32, ops: &Ids) -> u32
+    ensures { result ≡ first_or op ops.now }
 {
     match ops.get(0) {
         Some(first) => *first,
@@ -95,7 +95,7 @@ fn entry_width(checked: &Checked, growing: &Growing, op: u32) -> usize
     ensures { (g : Graph) (o : Operator) → graph_of checked.now ≡ g → slice_get g.ops op ≡ Some o → AreNumbers g growing.now.ops
         → numbers_to result ≡ entry_attributes (ops_of g (growing.now.ops ++ op ∷ [])) }
 {
-    let first = first_of(op, &growing.ops);
+    let first = first_or(op, &growing.ops);
     match checked.graph.ops.get(first as usize) {
         Some(first) => input_width(checked, first),
         None => 0,
@@ -143,7 +143,7 @@ fn grow_keyed(
     requires number { op < length checked.now.parts }
     requires numbers { (g : Graph) → graph_of checked.now ≡ g → AreNumbers g growing.old.segment }
     ensures grows { IfOk result (λ taken. (g : Graph) (o : Operator) → graph_of checked.now ≡ g → slice_get g.ops op ≡ Some o
-        → state_of o.clauses ≡ K.Keyed places.now → IsGrown g growing.old → Grows g growing.old op taken growing.new) }
+        → state_of o ≡ K.Keyed places.now → IsGrown g growing.old → Grows g growing.old op taken growing.new) }
     ensures stays { IfOk result (λ taken. taken ≡ false → growing.new ≡ growing.old) }
 {
     let sources = key_sources(alloc, checked, growing, places)?;
@@ -170,7 +170,7 @@ pub(crate) fn grow(
     requires number { op < length checked.now.parts }
     requires numbers { (g : Graph) → graph_of checked.now ≡ g → AreNumbers g growing.old.segment }
     ensures grows { IfOk result (λ taken. (g : Graph) (o : Operator) → graph_of checked.now ≡ g → slice_get g.ops op ≡ Some o
-        → state_of o.clauses ≡ state.now → IsGrown g growing.old → Grows g growing.old op taken growing.new) }
+        → state_of o ≡ state.now → IsGrown g growing.old → Grows g growing.old op taken growing.new) }
     ensures stays { IfOk result (λ taken. taken ≡ false → growing.new ≡ growing.old) }
 {
     match state {

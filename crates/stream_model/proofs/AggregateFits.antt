@@ -24,7 +24,7 @@ use Rattle.language_model.specs.WorldFits.{EnvFits}
 use Rattle.language_model.proofs.Yielding.{IsThere, Yields, yields_need, yields_weaker}
 use Rattle.stream_model.specs.Stream.{Event}
 use Rattle.stream_model.specs.Operators.{Operator}
-use Rattle.stream_model.specs.PortEvents.{items_of}
+use Rattle.stream_model.specs.PortEvents.{port_items}
 use Rattle.stream_model.specs.Bodies.{Makes, most_turns, at_tuple}
 use Rattle.stream_model.specs.Aggregates.{arguments, fired_give, aggregate_body}
 use Rattle.stream_model.proofs.parts.Aggregates.{done_or_none}
@@ -118,13 +118,13 @@ module _ (op : Operator) (fit : IsFitting op) (window : Policy) (partition group
   has_input : (p : ℕ) (x : Item) → HasPort op p x → ItemHas shape.input x
   has_input p x has = subst (λ s. ItemHas s x) (only_input op.types.ins shape.input p shape.takes has.0) has.1
 
-  history_good : (h : List Event) → HistoryFits op h → NoneFaulted op h → AllByRecursion (ItemIs Good) (items_of 0 h)
+  history_good : (h : List Event) → HistoryFits op h → NoneFaulted op h → AllByRecursion (ItemIs Good) (port_items 0 h)
   history_good [] fits calm = tt
   history_good (e ∷ h) fits calm =
       let rest = history_good h fits.1 calm.1 in
-      let given : is_given (answer (aggregate_body op.functions window partition group output (items_of 0 h) e.item)) ≡ true =
+      let given : is_given (answer (aggregate_body op.functions window partition group output (port_items 0 h) e.item)) ≡ true =
       sym (ap (λ c. is_given (answer (makes_by c op h e.input e.item))) is) ∙ calm.0 in
-      all_if (ItemIs Good) (e.input == 0) (e.item ∷ items_of 0 h) (items_of 0 h) (item_good (items_of 0 h) e.item (has_input e.input e.item fits.0) given, rest) rest
+      all_if (ItemIs Good) (e.input == 0) (e.item ∷ port_items 0 h) (port_items 0 h) (item_good (port_items 0 h) e.item (has_input e.input e.item fits.0) given, rest) rest
 
   -- what is fired gives what fits
   gives : (earlier : List Item) (x : Item) → AllByRecursion (ItemIs Good) earlier → ItemIs Good x
@@ -162,9 +162,9 @@ module _ (op : Operator) (fit : IsFitting op) (window : Policy) (partition group
   aggregate_makes : (h : List Event) (port : ℕ) (x : Item) → HistoryFits op h → NoneFaulted op h → HasPort op port x → MakesFit op (makes_by op.clauses op h port x)
   aggregate_makes h port x history calm has =
       subst (λ c. MakesFit op (makes_by c op h port x)) (sym is)
-      (as_makes op (aggregate_body op.functions window partition group output (items_of 0 h) x)
-      (yields_weaker (AllByRecursion Given) (AllFit op) (aggregate_body op.functions window partition group output (items_of 0 h) x) given_fits
-      (body_gives (items_of 0 h) x (history_good h history calm) (has_input port x has))))
+      (as_makes op (aggregate_body op.functions window partition group output (port_items 0 h) x)
+      (yields_weaker (AllByRecursion Given) (AllFit op) (aggregate_body op.functions window partition group output (port_items 0 h) x) given_fits
+      (body_gives (port_items 0 h) x (history_good h history calm) (has_input port x has))))
 
 by_part : (op : Operator) (h : List Event) (port : ℕ) (x : Item) (part : CheckedClauses) → op.clauses ≡ part → is_aggregate part ≡ true → IsFitting op → HistoryFits op h → NoneFaulted op h
     → HasPort op port x → MakesFit op (makes_by op.clauses op h port x)

@@ -9,7 +9,7 @@ use Rattle.language_model.specs.declared.checked.CheckedClauses.TheVariants as A
 use Rattle.stream_model.specs.Stream.{Event, came, is_final, is_fault, is_empty}
 use Rattle.stream_model.specs.Operators.{Operator, ports, ports_from}
 use Rattle.stream_model.specs.parts.Operators.{port_at}
-use Rattle.stream_model.specs.PortEvents.{by_ports, is_over, all_over, is_waiting, is_last, port_events}
+use Rattle.stream_model.specs.PortEvents.{by_ports, is_over, all_over, is_waiting, ends_all, port_events}
 use Rattle.stream_model.specs.parts.PortEvents.{port_ended}
 use Rattle.stream_model.proofs.parts.PortEvents.{all_ended}
 use Rattle.stream_model.specs.Bodies.{on_each}
@@ -325,7 +325,7 @@ by_ports_law op earlier e some named waits = (
     longer : port_events op (e ∷ earlier) ≡ at_port op e ∷ port_events op earlier
     longer = cond-false (is_waiting op earlier e) (port_events op earlier) (came (port_at (ports op) e.input) e.item ∷ port_events op earlier) waits
 
-    last : is_last op earlier e ≡ is_last (by_ports op) (port_events op earlier) (at_port op e)
+    last : ends_all op earlier e ≡ ends_all (by_ports op) (port_events op earlier) (at_port op e)
     last = ap (λ b. is_final e.item && b) (all_same_ended op (e ∷ earlier) some named ∙ ap (all_ended (by_ports op)) longer)
 
     bodies : body op earlier e ≡ body (by_ports op) (port_events op earlier) (at_port op e)
@@ -336,10 +336,10 @@ by_ports_law op earlier e some named waits = (
         ap answer (sym (same_makes op.clauses op (port_events op earlier) (port_at (ports op) e.input) e.item))
         ∙ (λ i. port_body (by_ports op) (sym events i) (sym at i) e.item)
 
-    answers : (answered op (is_last op earlier e) (body op earlier e)
-        ≡ answered (by_ports op) (is_last (by_ports op) (port_events op earlier) (at_port op e)) (body (by_ports op) (port_events op earlier) (at_port op e)))
-        × (ended_by op (is_last op earlier e) (body op earlier e)
-        ≡ ended_by (by_ports op) (is_last (by_ports op) (port_events op earlier) (at_port op e)) (body (by_ports op) (port_events op earlier) (at_port op e)))
+    answers : (answered op (ends_all op earlier e) (body op earlier e)
+        ≡ answered (by_ports op) (ends_all (by_ports op) (port_events op earlier) (at_port op e)) (body (by_ports op) (port_events op earlier) (at_port op e)))
+        × (ended_by op (ends_all op earlier e) (body op earlier e)
+        ≡ ended_by (by_ports op) (ends_all (by_ports op) (port_events op earlier) (at_port op e)) (body (by_ports op) (port_events op earlier) (at_port op e)))
     answers =
-        let same = same_answered op (is_last (by_ports op) (port_events op earlier) (at_port op e)) (body (by_ports op) (port_events op earlier) (at_port op e)) in
+        let same = same_answered op (ends_all (by_ports op) (port_events op earlier) (at_port op e)) (body (by_ports op) (port_events op earlier) (at_port op e)) in
         ((λ i. answered op (last i) (bodies i)) ∙ same.0, (λ i. ended_by op (last i) (bodies i)) ∙ same.1)

@@ -8,9 +8,10 @@ use Rattle.language_model.specs.declared.checked.CheckedClauses.{CheckedClauses}
 use Rattle.language_model.specs.declared.checked.PortTypes.{PortTypes}
 use Rattle.language_model.specs.declared.outs.Output.{Output}
 use Rattle.spl_tree.specs.declared.body.Function.{Function}
-use Rattle.stream_model.specs.Stream.{Event, came, is_fault, closes, any_closes, is_closed, is_empty}
+use Rattle.stream_model.specs.Stream.{Event, came, is_fault, any_closes, is_closed, is_empty}
+use Rattle.spl_value.specs.Numbered.{closes}
 use Rattle.stream_model.specs.Operators.{Operator}
-use Rattle.stream_model.specs.PortEvents.{is_waiting, is_last}
+use Rattle.stream_model.specs.PortEvents.{is_waiting, ends_all}
 use Rattle.stream_model.specs.Bodies.{output, on_each}
 use Rattle.stream_model.specs.React.{Reaction, Gives, Faults, body, react, ended, ended_by, answered, own_fault}
 use Rattle.stream_model.proofs.KindBodies.{given, some_closes, given_open}
@@ -95,16 +96,16 @@ caused_closed op p x false false last (Faults kind) opens lt closing q = is_clos
 pub react_open : (op : Operator) (p : ℕ) (earlier : List Event) (e : Event) → is_some (ended op earlier e) ≡ false
     → any_closes (on_port p (react op earlier e)) ≡ false
 react_open op p earlier e =
-    caused_open op p e.item (is_fault e.item) (is_waiting op earlier e) (is_last op earlier e) (body op earlier e) (given_open op earlier e)
+    caused_open op p e.item (is_fault e.item) (is_waiting op earlier e) (ends_all op earlier e) (body op earlier e) (given_open op earlier e)
 
 -- one that ends it closes each
 pub react_closed : (op : Operator) (p : ℕ) (earlier : List Event) (e : Event) → p < length op.outs → is_some (ended op earlier e) ≡ true
     → is_closed (on_port p (react op earlier e)) ≡ true
 react_closed op p earlier e lt =
-    caused_closed op p e.item (is_fault e.item) (is_waiting op earlier e) (is_last op earlier e) (body op earlier e) (given_open op earlier e) lt (closes-fault e.item)
+    caused_closed op p e.item (is_fault e.item) (is_waiting op earlier e) (ends_all op earlier e) (body op earlier e) (given_open op earlier e) lt (closes-fault e.item)
 
 pub end_item_law : EndItemLaw
-end_item_law op earlier e x q = go (is_fault e.item) (is_waiting op earlier e) (is_last op earlier e) (body op earlier e) refl refl q
+end_item_law op earlier e x q = go (is_fault e.item) (is_waiting op earlier e) (ends_all op earlier e) (body op earlier e) refl refl q
   where
     go : (fault waits last : Bool) (a : Reaction) → is_fault e.item ≡ fault → body op earlier e ≡ a
         → cond fault (Some e.item) (cond waits None (ended_by op last a)) ≡ Some x
@@ -136,7 +137,7 @@ caused_ends op p e x false false last (Faults kind) opens lt q =
 
 pub end_gives_law : EndGivesLaw
 end_gives_law op p earlier e lt = (
-  λ x q. caused_ends op p e.item x (is_fault e.item) (is_waiting op earlier e) (is_last op earlier e) (body op earlier e) (given_open op earlier e) lt q,
+  λ x q. caused_ends op p e.item x (is_fault e.item) (is_waiting op earlier e) (ends_all op earlier e) (body op earlier e) (given_open op earlier e) lt q,
   λ q. react_open op p earlier e (ap is_some q),
 )
 

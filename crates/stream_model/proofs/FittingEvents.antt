@@ -9,7 +9,7 @@ use Rattle.language_model.specs.Outcomes.{Done, Faulted, Stuck}
 use Rattle.stream_model.specs.Stream.{Event, came, is_fault, is_tuple}
 use Rattle.stream_model.specs.Operators.{Operator, ports}
 use Rattle.stream_model.specs.parts.Operators.{port_at}
-use Rattle.stream_model.specs.PortEvents.{is_last, is_waiting, port_events}
+use Rattle.stream_model.specs.PortEvents.{ends_all, is_waiting, port_events}
 use Rattle.stream_model.specs.Bodies.{Makes, on_each, output}
 use Rattle.stream_model.specs.React.{Reaction, Gives, Faults, answer, answered, body, ended, ended_by, makes_by, own_fault}
 use Rattle.stream_model.specs.Replies.{AllFit, is_live}
@@ -22,9 +22,9 @@ use Rattle.spl_value.proofs.Bools.{and_parts}
 
 item_has : (op : Operator) (x : Item) (p : ℕ) → is_tuple x ≡ false → AllFit op (output p x ∷ [])
 item_has op (I.Tuple vs) p q = absurd (let no : true ≡ false = q in cc)
-item_has op I.Window p q = one_fits op (output p I.Window) tt
-item_has op I.Final p q = one_fits op (output p I.Final) tt
-item_has op (I.Bad f) p q = one_fits op (output p (I.Bad f)) tt
+item_has op I.Window p q = one_fits op (output p I.Window) refl
+item_has op I.Final p q = one_fits op (output p I.Final) refl
+item_has op (I.Bad f) p q = one_fits op (output p (I.Bad f)) refl
 
 -- what isn't a tuple fits on each port
 each_fits : (op : Operator) (x : Item) (n : ℕ) → is_tuple x ≡ false → AllFit op (on_each n x)
@@ -38,9 +38,9 @@ event_port op e fit has = (subst (λ n. port_at (ports op) e.input < n) fit.ins 
 -- an event that doesn't wait and doesn't end an operator gave no fault
 not_faulted : (op : Operator) (h : List Event) (e : Event) → is_waiting op h e ≡ false → is_none (ended op h e) ≡ true → is_given (body op h e) ≡ true
 not_faulted op h e moves stays = go (is_fault e.item) (body op h e) refl
-    (ap (λ w. is_none (if is_fault e.item then Some e.item else if w then None else ended_by op (is_last op h e) (body op h e))) (sym moves) ∙ stays)
+    (ap (λ w. is_none (if is_fault e.item then Some e.item else if w then None else ended_by op (ends_all op h e) (body op h e))) (sym moves) ∙ stays)
   where
-    go : (f : Bool) (a : Reaction) → is_fault e.item ≡ f → is_none (if f then Some e.item else ended_by op (is_last op h e) a) ≡ true → is_given a ≡ true
+    go : (f : Bool) (a : Reaction) → is_fault e.item ≡ f → is_none (if f then Some e.item else ended_by op (ends_all op h e) a) ≡ true → is_given a ≡ true
     go true a q none = absurd (let no : false ≡ true = none in cc)
     go false (Gives outs) q none = refl
     go false (Faults kind) q none = absurd (let no : false ≡ true = none in cc)
@@ -85,10 +85,10 @@ reacts_fit fits op h e fit events live has = (makes, causes (is_fault e.item) (i
     bad (I.Bad f) q = each_fits op (I.Bad f) (length op.outs) refl
 
     causes : (f w : Bool) → is_fault e.item ≡ f
-        → AllFit op (if f then on_each (length op.outs) e.item else if w then [] else answered op (is_last op h e) (answer made))
+        → AllFit op (if f then on_each (length op.outs) e.item else if w then [] else answered op (ends_all op h e) (answer made))
     causes true w q = bad e.item q
     causes false true q = none_fit op
-    causes false false q = given (is_last op h e) made makes
+    causes false false q = given (ends_all op h e) made makes
 
 -- whatever kind an operator is of
 pub of_kinds : FitsAt is_simple → FitsAt is_custom → FitsAt is_aggregate → FitsAt is_join → FitsAt (λ part. true)

@@ -216,13 +216,13 @@ module _ (functions : List Function) (scope : Scope) (schema : Attributes) (outp
 
   marker_if : (b : Bool) → AllByRecursion OutputFits (cond b [] (on_first I.Window))
   marker_if true = tt
-  marker_if false = ((refl, tt), tt)
+  marker_if false = ((refl, refl), tt)
 
   pub passed_fits : (rule : WindowRule) → AllByRecursion OutputFits (marker_passed rule)
   passed_fits rule = passed_if (slides rule)
     where
       passed_if : (b : Bool) → AllByRecursion OutputFits (cond b (on_first I.Window) [])
-      passed_if true = ((refl, tt), tt)
+      passed_if true = ((refl, refl), tt)
       passed_if false = tt
 
   -- what contents of good tuples give

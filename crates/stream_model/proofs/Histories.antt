@@ -7,7 +7,7 @@ use Rattle.stream_model.specs.Operators.{Operator}
 use Rattle.stream_model.specs.React.{react, ended}
 use Rattle.spl_value.specs.declared.item.Item.{Item}
 use Rattle.stream_model.specs.Stages.{Stage, start, next, gives_all, stage_after, on_port, out}
-use Rattle.stream_model.proofs.parts.Stages.{gives}
+use Rattle.stream_model.proofs.parts.Stages.{stage_outputs}
 use Rattle.stream_model.proofs.StageLaws.{stage_at, gives_all-append, after-append, on_port-append, after-over}
 use Rattle.stream_model.specs.Laws.{StartLaw, HistoryLaw, EndLaw, LiveLaw, has_ended}
 
@@ -15,10 +15,10 @@ pub start_law : StartLaw
 start_law op = (λ p. refl, refl)
 
 pub out-more : (op : Operator) (p : ℕ) (events : List Event) (e : Event)
-    → out op p (events ++ e ∷ []) ≡ out op p events ++ on_port p (gives (stage_after (start op) events) e)
+    → out op p (events ++ e ∷ []) ≡ out op p events ++ on_port p (stage_outputs (stage_after (start op) events) e)
 out-more op p events e =
-    ap (on_port p) (gives_all-append (start op) events (e ∷ []) ∙ ap (λ outs. gives_all (start op) events ++ outs) (append-nil (gives (stage_after (start op) events) e)))
-    ∙ on_port-append p (gives_all (start op) events) (gives (stage_after (start op) events) e)
+    ap (on_port p) (gives_all-append (start op) events (e ∷ []) ∙ ap (λ outs. gives_all (start op) events ++ outs) (append-nil (stage_outputs (stage_after (start op) events) e)))
+    ∙ on_port-append p (gives_all (start op) events) (stage_outputs (stage_after (start op) events) e)
 
 after-op : (op : Operator) (seen events : List Event) (over : Bool) → (stage_after (stage_at op seen over) events).op ≡ op
 after-op op seen [] over = refl

@@ -27,7 +27,7 @@ use Rattle.language_model.specs.WorldFits.{FunctionsFit}
 use Rattle.language_model.proofs.Yielding.{OfType, Yields, yields_followed}
 use Rattle.stream_model.specs.Stream.{Event}
 use Rattle.stream_model.specs.Operators.{Operator}
-use Rattle.stream_model.specs.PortEvents.{items_of}
+use Rattle.stream_model.specs.PortEvents.{port_items}
 use Rattle.stream_model.specs.Bodies.{most_turns, made_where}
 use Rattle.stream_model.specs.Joins.{at_pair, join_body, pairs_give, side_content}
 use Rattle.stream_model.specs.React.{makes_by}
@@ -73,12 +73,12 @@ items_has schema (I.Bad f) h = tt
 
 -- what has come on a port has its attributes
 pub came_has : (op : Operator) (port : ℕ) (schema : Attributes) → unwrap_or (slice_get op.types.ins port) [] ≡ schema → (h : List Event) → HistoryFits op h
-    → AllByRecursion (ItemIs (Has schema)) (items_of port h)
+    → AllByRecursion (ItemIs (Has schema)) (port_items port h)
 came_has op port schema is [] fit = tt
 came_has op port schema is (e ∷ h) fit = go (e.input == port) refl (came_has op port schema is h fit.1)
   where
-    go : (b : Bool) → (e.input == port) ≡ b → AllByRecursion (ItemIs (Has schema)) (items_of port h)
-        → AllByRecursion (ItemIs (Has schema)) (if b then e.item ∷ items_of port h else items_of port h)
+    go : (b : Bool) → (e.input == port) ≡ b → AllByRecursion (ItemIs (Has schema)) (port_items port h)
+        → AllByRecursion (ItemIs (Has schema)) (if b then e.item ∷ port_items port h else port_items port h)
     go true q rest =
         let same : e.input ≡ port = eqb-true e.input port q in
         (items_has schema e.item (subst (λ a. ItemHas a e.item) (ap (λ p. unwrap_or (slice_get op.types.ins p) []) same ∙ is) fit.0.1), rest)
@@ -98,21 +98,21 @@ side_has window schema items all =
 join_of : (op : Operator) (signatures : List Signature) (scope : Scope) (left right : Policy) (condition : Option (Code Slot)) (code : Code Slot) (first second schema : Attributes)
     → op.types.ins ≡ first ∷ second ∷ [] → NamesPorts signatures (first ∷ second ∷ []) scope → FunctionsFit signatures op.functions → ConditionFits scope condition
     → F.CodeFits scope code (S.Tuple schema) → given_attributes op.clauses op 0 ≡ schema → (h : List Event) → HistoryFits op h → (port : ℕ) (x : Item) → HasPort op port x
-    → MakesFit op (join_body op.functions left right condition code (items_of 0 h) (items_of 1 h) port x)
+    → MakesFit op (join_body op.functions left right condition code (port_items 0 h) (port_items 1 h) port x)
 join_of op signatures scope left right condition code first second schema ins names there holds fit given h history zero (I.Tuple t) has =
     let mine : Has first t = subst (λ a. ItemHas a (I.Tuple t)) (ap (λ schemas. unwrap_or (slice_get schemas 0) []) ins) has.1 in
     let others = came_has op 1 second (ap (λ schemas. unwrap_or (slice_get schemas 1) []) ins) h history in
     as_makes op _
-    (pairs_fit op signatures (first ∷ second ∷ []) scope condition code schema (map (λ u. at_pair t u) (side_content right (items_of 1 h))) most_turns names there holds fit given
-    (pairs_have (first ∷ second ∷ []) (Has second) (λ u. t ∷ u ∷ []) (side_content right (items_of 1 h)) (λ u k. two_came first second t u mine k)
-    (side_has right second (items_of 1 h) others)))
+    (pairs_fit op signatures (first ∷ second ∷ []) scope condition code schema (map (λ u. at_pair t u) (side_content right (port_items 1 h))) most_turns names there holds fit given
+    (pairs_have (first ∷ second ∷ []) (Has second) (λ u. t ∷ u ∷ []) (side_content right (port_items 1 h)) (λ u k. two_came first second t u mine k)
+    (side_has right second (port_items 1 h) others)))
 join_of op signatures scope left right condition code first second schema ins names there holds fit given h history (suc zero) (I.Tuple t) has =
     let mine : Has second t = subst (λ a. ItemHas a (I.Tuple t)) (ap (λ schemas. unwrap_or (slice_get schemas 1) []) ins) has.1 in
     let others = came_has op 0 first (ap (λ schemas. unwrap_or (slice_get schemas 0) []) ins) h history in
     as_makes op _
-    (pairs_fit op signatures (first ∷ second ∷ []) scope condition code schema (map (λ u. at_pair u t) (side_content left (items_of 0 h))) most_turns names there holds fit given
-    (pairs_have (first ∷ second ∷ []) (Has first) (λ u. u ∷ t ∷ []) (side_content left (items_of 0 h)) (λ u k. two_came first second u t k mine)
-    (side_has left first (items_of 0 h) others)))
+    (pairs_fit op signatures (first ∷ second ∷ []) scope condition code schema (map (λ u. at_pair u t) (side_content left (port_items 0 h))) most_turns names there holds fit given
+    (pairs_have (first ∷ second ∷ []) (Has first) (λ u. u ∷ t ∷ []) (side_content left (port_items 0 h)) (λ u k. two_came first second u t k mine)
+    (side_has left first (port_items 0 h) others)))
 join_of op signatures scope left right condition code first second schema ins names there holds fit given h history (suc (suc port)) (I.Tuple t) has =
     let few : length op.types.ins ≡ 2 = ap length ins in
     absurd (omega (arith, few, has.0))

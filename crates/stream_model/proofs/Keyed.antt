@@ -16,13 +16,13 @@ use Rattle.stream_model.specs.Stream.{Event, came, is_tuple}
 use Rattle.spl_value.specs.KeyOrder.{same_key}
 use Rattle.stream_model.specs.Operators.{Operator}
 use Rattle.stream_model.specs.parts.Operators.{port_at}
-use Rattle.stream_model.specs.PortEvents.{is_waiting, items_of, port_events}
+use Rattle.stream_model.specs.PortEvents.{is_waiting, port_items, port_events}
 use Rattle.stream_model.specs.Windows.{contents_of, fired_at, flushes_at_markers, partition_key, tuples_with, window_events}
 use Rattle.stream_model.specs.Bodies.{Makes, at_tuple, most_turns}
 use Rattle.stream_model.specs.Aggregates.{arguments, contents_give}
 use Rattle.stream_model.specs.parts.Aggregates.{marker_passed}
 use Rattle.stream_model.specs.React.{answer, answered, react}
-use Rattle.stream_model.specs.StateKinds.{is_keyed, state_of}
+use Rattle.stream_model.specs.StateKinds.{is_keyed, state_by}
 use Rattle.stream_model.specs.parts.StateKinds.{has_mutable}
 use Rattle.stream_model.specs.Replies.{is_live}
 use Rattle.stream_model.specs.Regions.{IsLocal, tuples_of_key}
@@ -51,7 +51,7 @@ first_port (suc i) = refl
 -- those that came into the window of the one port are those among the events
 tuples_come : (n : ℕ) (part : CheckedClauses) (functions : List Function) (types : PortTypes) (s : ℕ) (outs : List ℕ) (key : List Value → List Value) (places : List ℕ)
     → ((t : List Value) → key t ≡ key_of t places) → (k : List Value) (h : List Event)
-    → tuples_with k (window_events key (items_of 0 (port_events (one_in n part functions types s outs) h))) ≡ tuples_in (tuples_of_key places k h)
+    → tuples_with k (window_events key (port_items 0 (port_events (one_in n part functions types s outs) h))) ≡ tuples_in (tuples_of_key places k h)
 tuples_come n part functions types s outs key places keys k [] = refl
 tuples_come n part functions types s outs key places keys k (e ∷ h) = go e.input e.item (tuples_come n part functions types s outs key places keys k h)
   where
@@ -59,26 +59,26 @@ tuples_come n part functions types s outs key places keys k (e ∷ h) = go e.inp
     op = one_in n part functions types s outs
 
     Rest : Type 0
-    Rest = tuples_with k (window_events key (items_of 0 (port_events op h))) ≡ tuples_in (tuples_of_key places k h)
+    Rest = tuples_with k (window_events key (port_items 0 (port_events op h))) ≡ tuples_in (tuples_of_key places k h)
 
     tuple : (i : ℕ) (vs : List Value) (b : Bool) → Rest
-        → (if b then vs ∷ tuples_with k (window_events key (items_of 0 (port_events op h))) else tuples_with k (window_events key (items_of 0 (port_events op h))))
+        → (if b then vs ∷ tuples_with k (window_events key (port_items 0 (port_events op h))) else tuples_with k (window_events key (port_items 0 (port_events op h))))
         ≡ tuples_in (if b then came i (I.Tuple vs) ∷ tuples_of_key places k h else tuples_of_key places k h)
     tuple i vs true rest = ap (λ ts. vs ∷ ts) rest
     tuple i vs false rest = rest
 
-    final : (i : ℕ) (b : Bool) → Rest → tuples_with k (window_events key (items_of 0 (if b then port_events op h else came (port_at (0 ∷ []) i) I.Final ∷ port_events op h)))
+    final : (i : ℕ) (b : Bool) → Rest → tuples_with k (window_events key (port_items 0 (if b then port_events op h else came (port_at (0 ∷ []) i) I.Final ∷ port_events op h)))
         ≡ tuples_in (tuples_of_key places k h)
     final i true rest = rest
     final zero false rest = rest
     final (suc i) false rest = rest
 
-    go : (i : ℕ) (x : Item) → Rest → tuples_with k (window_events key (items_of 0 (port_events op (came i x ∷ h)))) ≡ tuples_in (tuples_of_key places k (came i x ∷ h))
+    go : (i : ℕ) (x : Item) → Rest → tuples_with k (window_events key (port_items 0 (port_events op (came i x ∷ h)))) ≡ tuples_in (tuples_of_key places k (came i x ∷ h))
     go zero (I.Tuple vs) rest =
-        ap (λ q. if same_key k q then vs ∷ tuples_with k (window_events key (items_of 0 (port_events op h))) else tuples_with k (window_events key (items_of 0 (port_events op h)))) (keys vs)
+        ap (λ q. if same_key k q then vs ∷ tuples_with k (window_events key (port_items 0 (port_events op h))) else tuples_with k (window_events key (port_items 0 (port_events op h)))) (keys vs)
         ∙ tuple zero vs (same_key k (key_of vs places)) rest
     go (suc i) (I.Tuple vs) rest =
-        ap (λ q. if same_key k q then vs ∷ tuples_with k (window_events key (items_of 0 (port_events op h))) else tuples_with k (window_events key (items_of 0 (port_events op h)))) (keys vs)
+        ap (λ q. if same_key k q then vs ∷ tuples_with k (window_events key (port_items 0 (port_events op h))) else tuples_with k (window_events key (port_items 0 (port_events op h)))) (keys vs)
         ∙ tuple (suc i) vs (same_key k (key_of vs places)) rest
     go zero I.Window rest = rest
     go (suc i) I.Window rest = rest
@@ -91,20 +91,20 @@ tuples_come n part functions types s outs key places keys k (e ∷ h) = go e.inp
 same_fires : (n : ℕ) (part : CheckedClauses) (functions : List Function) (types : PortTypes) (s : ℕ) (outs : List ℕ) (window : Policy) (partition : List ℕ)
     → window.partitioned ≡ true → (h k : List Event) (vs : List Value)
     → tuples_of_key partition (key_of vs partition) h ≡ tuples_of_key partition (key_of vs partition) k
-    → fired_at window.rule (partition_key window partition) (I.Tuple vs) (items_of 0 (port_events (one_in n part functions types s outs) h))
-    ≡ fired_at window.rule (partition_key window partition) (I.Tuple vs) (items_of 0 (port_events (one_in n part functions types s outs) k))
+    → fired_at window.rule (partition_key window partition) (I.Tuple vs) (port_items 0 (port_events (one_in n part functions types s outs) h))
+    ≡ fired_at window.rule (partition_key window partition) (I.Tuple vs) (port_items 0 (port_events (one_in n part functions types s outs) k))
 same_fires n part functions types s outs window partition partitioned h k vs same =
     let op = one_in n part functions types s outs in
     let key = partition_key window partition in
     let keys : (t : List Value) → key t ≡ key_of t partition = λ t. ap (λ (b : Bool). if b then key_of t partition else []) partitioned in
-    let come : (g : List Event) → tuples_with (key vs) (window_events key (items_of 0 (port_events op g))) ≡ tuples_in (tuples_of_key partition (key_of vs partition) g)
-    = λ g. ap (λ q. tuples_with q (window_events key (items_of 0 (port_events op g)))) (keys vs)
+    let come : (g : List Event) → tuples_with (key vs) (window_events key (port_items 0 (port_events op g))) ≡ tuples_in (tuples_of_key partition (key_of vs partition) g)
+    = λ g. ap (λ q. tuples_with q (window_events key (port_items 0 (port_events op g)))) (keys vs)
     ∙ tuples_come n part functions types s outs key partition keys (key_of vs partition) g in
-    let tuples : tuples_with (key vs) (window_events key (items_of 0 (port_events op h))) ≡ tuples_with (key vs) (window_events key (items_of 0 (port_events op k)))
+    let tuples : tuples_with (key vs) (window_events key (port_items 0 (port_events op h))) ≡ tuples_with (key vs) (window_events key (port_items 0 (port_events op k)))
     = come h ∙ ap tuples_in same ∙ sym (come k) in
-    let first = fired_law window.rule key (items_of 0 (port_events op h)) in
-    let second = fired_law window.rule key (items_of 0 (port_events op k)) in
-    let own = own_key_law window.rule (key vs) (window_events key (items_of 0 (port_events op h))) (window_events key (items_of 0 (port_events op k))) in
+    let first = fired_law window.rule key (port_items 0 (port_events op h)) in
+    let second = fired_law window.rule key (port_items 0 (port_events op k)) in
+    let own = own_key_law window.rule (key vs) (window_events key (port_items 0 (port_events op h))) (window_events key (port_items 0 (port_events op k))) in
     first.0 vs ∙ ap contents_of (own.2 tuples vs) ∙ sym (second.0 vs)
 
 fires_nothing : (window : Policy) (partition : List ℕ) (items : List Item) → flushes_at_markers window.rule ≡ false
@@ -123,7 +123,7 @@ aggregate_is_local n functions types s outs window partition group collects part
     op = one_in n (A.Aggregate window partition group collects) functions types s outs
 
     fired : Item → List Event → List (List (List Value))
-    fired x h = fired_at window.rule (partition_key window partition) x (items_of 0 (port_events op h))
+    fired x h = fired_at window.rule (partition_key window partition) x (port_items 0 (port_events op h))
 
     at_tuple_gives : List Value → List (List (List Value)) → Makes
     at_tuple_gives vs contents =
@@ -141,7 +141,7 @@ aggregate_is_local n functions types s outs window partition group collects part
     others : (h k : List Event) (x : Item) → is_tuple x ≡ false → is_live op h ≡ true → is_live op k ≡ true → react op h (came 0 x) ≡ react op k (came 0 x)
     others h k (I.Tuple vs) q live also = absurd (let no : true ≡ false = q in cc)
     others h k I.Window q live also = ap (λ contents. answered op false (answer (at_marker_gives contents)))
-        (fires_nothing window partition (items_of 0 (port_events op h)) passing ∙ sym (fires_nothing window partition (items_of 0 (port_events op k)) passing))
+        (fires_nothing window partition (port_items 0 (port_events op h)) passing ∙ sym (fires_nothing window partition (port_items 0 (port_events op k)) passing))
     others h k I.Final q live also = refl
     others h k (I.Bad f) q live also = refl
 
@@ -155,7 +155,7 @@ no_keys : (b : Bool) (places : List ℕ) → (if b then K.Whole else K.Stateless
 no_keys true places q = let no : K.Whole ≡ K.Keyed places = q in absurd cc
 no_keys false places q = let no : K.Stateless ≡ K.Keyed places = q in absurd cc
 
-local_in : (n : ℕ) (part : CheckedClauses) (functions : List Function) (types : PortTypes) (s : ℕ) (outs : List ℕ) (places : List ℕ) → state_of part ≡ K.Keyed places
+local_in : (n : ℕ) (part : CheckedClauses) (functions : List Function) (types : PortTypes) (s : ℕ) (outs : List ℕ) (places : List ℕ) → state_by part ≡ K.Keyed places
     → IsLocal (one_in n part functions types s outs) places
 local_in n (A.Aggregate window partition group collects) functions types s outs places q =
     let keys = keeps_keys (window.partitioned && not (flushes_at_markers window.rule)) partition places q in

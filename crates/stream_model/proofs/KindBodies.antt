@@ -27,10 +27,11 @@ use Rattle.language_model.specs.Functions.{runs, value}
 use Rattle.language_model.specs.Outcomes.{Outcome, Done, Faulted, Stuck, followed, need}
 use Rattle.language_model.specs.Statements.{Left}
 use Rattle.language_model.proofs.Returning.{Only}
-use Rattle.stream_model.specs.Stream.{Event, closes}
+use Rattle.stream_model.specs.Stream.{Event}
+use Rattle.spl_value.specs.Numbered.{closes}
 use Rattle.stream_model.specs.Operators.{Operator, ports}
 use Rattle.stream_model.specs.parts.Operators.{port_at}
-use Rattle.stream_model.specs.PortEvents.{items_of, port_events}
+use Rattle.stream_model.specs.PortEvents.{port_items, port_events}
 use Rattle.stream_model.specs.Windows.{integer_of, partition_key, fired_at}
 use Rattle.stream_model.specs.Groups.{groups}
 use Rattle.stream_model.specs.Bodies.{Makes, most_turns, output, on_first, on_each, at_tuple, holds, passes, tuple_by, made_where, by_item, with_marker, on_picked, values_at}
@@ -219,9 +220,9 @@ module _ (test : Output → Bool) (n : ℕ) (pass : Passes test n) where
       passing_item _ [] x (λ vs. passing_need (slice_get places port) _ (λ is. passing_need (values_at vs is) _ (λ us. first_tuple us))) refl
   makes_passing (A.Custom handlers) op earlier port x c e = absurd cc
   makes_passing (A.Aggregate window partition group collects) op earlier port x c e =
-      aggregate_passing op.functions window partition group collects (items_of 0 earlier) x
+      aggregate_passing op.functions window partition group collects (port_items 0 earlier) x
   makes_passing (A.Join left right condition made) op earlier port x c e =
-      passing_item _ [] x (λ t. pairs_passing op.functions condition made (pairs_at left right (items_of 0 earlier) (items_of 1 earlier) port t) most_turns) refl
+      passing_item _ [] x (λ t. pairs_passing op.functions condition made (pairs_at left right (port_items 0 earlier) (port_items 1 earlier) port t) most_turns) refl
 
 -- ---- no output closes
 

@@ -2,6 +2,9 @@ mod Submits
 pub mod PlainLines
 pub mod RowsLaws
 pub mod StageLaws
+pub mod ChainStages
+pub mod Outputs
+pub mod ChainParts
 pub mod OrderLaws
 pub mod PathLaws
 pub mod Histories

@@ -6,11 +6,12 @@ use Rattle.std.proofs.lemmas.Bool.{cond-true, cond-false, cases_eq, eq-eqb, ne_e
 use Rattle.std.proofs.lemmas.List.Folds.{list_all-append}
 use Rattle.spl_value.specs.declared.item.Item.{Item}
 use Rattle.spl_value.specs.declared.item.Item.TheVariants as I
-use Rattle.stream_model.specs.Stream.{Event, came, closes, is_closed, is_empty, IsPrefix}
+use Rattle.stream_model.specs.Stream.{Event, came, is_closed, is_empty, IsPrefix}
+use Rattle.spl_value.specs.Numbered.{closes}
 use Rattle.stream_model.specs.Inputs.{inputs_of}
 use Rattle.stream_model.specs.Operators.{Operator, ports}
 use Rattle.stream_model.specs.parts.Operators.{port_at}
-use Rattle.stream_model.specs.PortEvents.{is_over, all_over, is_waiting, is_last}
+use Rattle.stream_model.specs.PortEvents.{is_over, all_over, is_waiting, ends_all}
 use Rattle.stream_model.specs.React.{body, ended, ended_by}
 use Rattle.stream_model.specs.Stages.{Stage, start, next, stage_after}
 use Rattle.stream_model.proofs.ByPorts.{over_stays}
@@ -113,7 +114,7 @@ ends_now op i seen I.Final at c over =
     let h : List Event = came i I.Final ∷ seen in
     let each : (j : ℕ) → 0 ≤ j → j < 0 + length (ports op) → is_over h j ≡ true = λ j l m. over_final i seen over j (omega (arith, at, m)) in
     let waits : is_waiting op seen (came i I.Final) ≡ false = ap not (all_over-from (λ q. q == port_at (ports op) i) (ports op) 0 h each) in
-    let last : is_last op seen (came i I.Final) ≡ true = all_over-from (λ q. true) (ports op) 0 h each in
+    let last : ends_all op seen (came i I.Final) ≡ true = all_over-from (λ q. true) (ports op) 0 h each in
     (λ k. is_some (cond (waits k) None (ended_by op (last k) (body op seen (came i I.Final)))))
     ∙ ended_by-last op (body op seen (came i I.Final))
 

@@ -74,7 +74,7 @@ both_fit op (o ∷ outs) more h k = more_fit op o (outs ++ more) (h zero o refl)
 
 windows_fit : (op : Operator) (n : ℕ) → AllFit op (on_each n I.Window)
 windows_fit op zero = none_fit op
-windows_fit op (suc n) = both_fit op (on_each n I.Window) (output n I.Window ∷ []) (windows_fit op n) (one_fits op (output n I.Window) tt)
+windows_fit op (suc n) = both_fit op (on_each n I.Window) (output n I.Window ∷ []) (windows_fit op n) (one_fits op (output n I.Window) refl)
 
 -- ---- one port
 
@@ -110,7 +110,7 @@ filter_fits op signatures scope condition schema (I.Tuple vs) names there fit gi
     (if_passed op (passes op.functions condition (at_tuple vs) most_turns) (on_first (I.Tuple vs))
     (passes_fits signatures op.functions scope condition (at_tuple vs) most_turns names.functions there fit (tuples_env signatures (schema ∷ []) scope (vs ∷ []) names (tuple_came schema vs has)))
     (one_fits op (output 0 (I.Tuple vs)) (subst (λ a. ItemHas a (I.Tuple vs)) (sym given) has)))
-filter_fits op signatures scope condition schema I.Window names there fit given has = one_fits op (output 0 I.Window) tt
+filter_fits op signatures scope condition schema I.Window names there fit given has = one_fits op (output 0 I.Window) refl
 filter_fits op signatures scope condition schema I.Final names there fit given has = none_fit op
 filter_fits op signatures scope condition schema (I.Bad f) names there fit given has = none_fit op
 
@@ -141,7 +141,7 @@ functor_fits : (op : Operator) (signatures : List Signature) (scope : Scope) (co
     → given_attributes op.clauses op 0 ≡ schema → ItemHas input x → MakesFit op (functor_body op.functions condition code x)
 functor_fits op signatures scope condition code input schema (I.Tuple vs) names there holds fit given has =
     as_makes op _ (made_fits op signatures (input ∷ []) scope condition code schema (vs ∷ []) most_turns names there holds fit given (tuple_came input vs has))
-functor_fits op signatures scope condition code input schema I.Window names there holds fit given has = one_fits op (output 0 I.Window) tt
+functor_fits op signatures scope condition code input schema I.Window names there holds fit given has = one_fits op (output 0 I.Window) refl
 functor_fits op signatures scope condition code input schema I.Final names there holds fit given has = none_fit op
 functor_fits op signatures scope condition code input schema (I.Bad f) names there holds fit given has = none_fit op
 
@@ -160,9 +160,9 @@ punctor_fits op signatures scope condition position schema (I.Tuple vs) names th
 
     go : (b : Bool) (position : Position) → AllFit op (if b then with_marker position vs else on_first (I.Tuple vs))
     go false position = alone
-    go true P.Before = both_fit op (on_first I.Window) (on_first (I.Tuple vs)) (one_fits op (output 0 I.Window) tt) alone
-    go true P.After = both_fit op (on_first (I.Tuple vs)) (on_first I.Window) alone (one_fits op (output 0 I.Window) tt)
-punctor_fits op signatures scope condition position schema I.Window names there fit given has = one_fits op (output 0 I.Window) tt
+    go true P.Before = both_fit op (on_first I.Window) (on_first (I.Tuple vs)) (one_fits op (output 0 I.Window) refl) alone
+    go true P.After = both_fit op (on_first (I.Tuple vs)) (on_first I.Window) alone (one_fits op (output 0 I.Window) refl)
+punctor_fits op signatures scope condition position schema I.Window names there fit given has = one_fits op (output 0 I.Window) refl
 punctor_fits op signatures scope condition position schema I.Final names there fit given has = none_fit op
 punctor_fits op signatures scope condition position schema (I.Bad f) names there fit given has = none_fit op
 

@@ -10,7 +10,7 @@ use Rattle.language_model.specs.declared.checked.CheckedClauses.{CheckedClauses}
 use Rattle.language_model.specs.declared.checked.PortTypes.{PortTypes}
 use Rattle.stream_model.specs.Operators.{Operator}
 use Rattle.stream_model.specs.Stages.{Stage, next, gives_all, stage_after, on_port}
-use Rattle.stream_model.proofs.parts.Stages.{gives}
+use Rattle.stream_model.proofs.parts.Stages.{stage_outputs}
 
 -- an operator after these events, the newest first, over or not
 abbrev pub stage_at : Operator → List Event → Bool → Stage
@@ -29,8 +29,8 @@ one_in-parts op clauses s outs k i o = rw (← k, ← i, ← o)
 pub gives_all-append : (s : Stage) (first second : List Event) → gives_all s (first ++ second) ≡ gives_all s first ++ gives_all (stage_after s first) second
 gives_all-append s [] second = refl
 gives_all-append s (e ∷ first) second =
-    ap (λ outs. gives s e ++ outs) (gives_all-append (next s e) first second)
-    ∙ sym (append_assoc (gives s e) (gives_all (next s e) first) (gives_all (stage_after (next s e) first) second))
+    ap (λ outs. stage_outputs s e ++ outs) (gives_all-append (next s e) first second)
+    ∙ sym (append_assoc (stage_outputs s e) (gives_all (next s e) first) (gives_all (stage_after (next s e) first) second))
 
 -- the stage after two lists of events
 pub after-append : (s : Stage) (first second : List Event) → stage_after s (first ++ second) ≡ stage_after (stage_after s first) second

@@ -19,7 +19,7 @@ use Rattle.stream_model.specs.PortEvents.{port_events}
 use Rattle.stream_model.specs.Bodies.{Makes}
 use Rattle.stream_model.specs.Customs.{changed, first_value, item_leaves, state, vars_after}
 use Rattle.stream_model.specs.React.{answer, answered, makes_by, react}
-use Rattle.stream_model.specs.StateKinds.{state_of}
+use Rattle.stream_model.specs.StateKinds.{state_by}
 use Rattle.stream_model.specs.parts.StateKinds.{has_mutable}
 use Rattle.stream_model.specs.Regions.{IsStateless}
 use Rattle.stream_model.specs.RegionLaws.{StatelessLaw}
@@ -57,7 +57,7 @@ keeps_some false places q = let no : K.Whole ≡ K.Stateless = q in absurd cc
 
 -- ---- bodies
 
-same_makes : (part : CheckedClauses) → state_of part ≡ K.Stateless → (op : Operator) (h k : List Event) (port : ℕ) (x : Item) → makes_by part op h port x ≡ makes_by part op k port x
+same_makes : (part : CheckedClauses) → state_by part ≡ K.Stateless → (op : Operator) (h k : List Event) (port : ℕ) (x : Item) → makes_by part op h port x ≡ makes_by part op k port x
 same_makes (A.Custom handlers) q op h k port x =
     let none = none_mutable (has_mutable handlers) q in
     ap (λ (vars : List Value). followed (item_leaves op.functions handlers vars port x) (λ left turns. Done left.submits turns))
@@ -66,7 +66,7 @@ same_makes (A.Aggregate window partition group collects) q op h k port x = absur
 same_makes (A.Join left right condition made) q op h k port x = absurd (let no : K.Whole ≡ K.Stateless = q in cc)
 same_makes _ q op h k port x = refl
 
-same_reacts : (n : ℕ) (part : CheckedClauses) (functions : List Function) (types : PortTypes) (s : ℕ) (outs : List ℕ) → state_of part ≡ K.Stateless
+same_reacts : (n : ℕ) (part : CheckedClauses) (functions : List Function) (types : PortTypes) (s : ℕ) (outs : List ℕ) → state_by part ≡ K.Stateless
     → (h k : List Event) (x : Item) → react (one_in n part functions types s outs) h (came 0 x) ≡ react (one_in n part functions types s outs) k (came 0 x)
 same_reacts n part functions types s outs q h k (I.Tuple vs) =
     let op = one_in n part functions types s outs in

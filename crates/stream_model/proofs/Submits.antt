@@ -1,5 +1,5 @@
 -- What bodies submit: tuples and window markers, which close no stream.
-use Rattle.std.specs.Prelude.{◌≡◌, ◌||◌, ℕ, Bool, true, false, List, [], ◌∷◌, ◌++◌, map}
+use Rattle.std.specs.Prelude.{◌≡◌, ◌||◌, ℕ, Bool, true, false, List, [], ◌∷◌, ◌++◌, map, Option}
 use Rattle.std.specs.List.{AllByRecursion, list_any}
 use Rattle.std.proofs.Common.{refl, sym, ap, ◌∙◌}
 use Rattle.std.proofs.lemmas.Bool.{and_from}
@@ -23,23 +23,26 @@ use Rattle.language_model.specs.Statements.{State, Left}
 use Rattle.language_model.proofs.Returning.{Only}
 use Rattle.language_model.proofs.StatementInduction.{OfArm, StatementSteps, statement_ind}
 use Rattle.language_model.proofs.Keeping.{IsKept, LeftBy, all_pass, arms_pass, body_keeps, level_passes, statement_passes}
-use Rattle.stream_model.specs.Stream.{closes}
+use Rattle.spl_value.specs.Numbered.{closes}
 
 -- ---- all statements pass where everything passes
 
 abbrev everything : {A : Type 0} → A → Bool
 everything x = true
 
+abbrev every_submit : ℕ → Option (Code Slot) → Bool
+every_submit port code = true
+
 abbrev passes : Statement → Bool
-passes = statement_passes everything everything
+passes = statement_passes everything every_submit
 
 abbrev Passes : Statement → Type 0
 Passes x = passes x ≡ true
 
 passes_by : (x : Statement) (form : Statement-F Statement) → out-Statement x ≡ form
-    → level_passes everything everything (map-Statement Statement Bool passes form) ≡ true → Passes x
+    → level_passes everything every_submit (map-Statement Statement Bool passes form) ≡ true → Passes x
 passes_by x form p h =
-    fold_out-Statement Bool (level_passes everything everything) x ∙ ap (λ y. level_passes everything everything (map-Statement Statement Bool passes y)) p ∙ h
+    fold_out-Statement Bool (level_passes everything every_submit) x ∙ ap (λ y. level_passes everything every_submit (map-Statement Statement Bool passes y)) p ∙ h
 
 row_all : (row : List Statement) → AllByRecursion Passes row → all_pass (map passes row) ≡ true
 row_all [] h = refl
@@ -89,13 +92,13 @@ one_more outs port x apart h =
     list_any-append (λ (o : Output). closes o.item) outs (record { port = port; item = x } ∷ [])
     ∙ (λ i. h i || (apart i || false))
 
-open_kept : (functions : List Function) (turns : ℕ) → IsKept (bodies_of functions turns) everything everything Open
+open_kept : (functions : List Function) (turns : ℕ) → IsKept (bodies_of functions turns) everything every_submit Open
 open_kept functions turns = record {
   change = λ s i v p k. k;
   declare = λ s v k. k;
   end = λ s t k l. l;
   tuple = λ s port code turns left v us p e l k. one_more s.submits port (I.Tuple us) refl k;
-  window = λ s port k. one_more s.submits port I.Window refl k;
+  window = λ s port e k. one_more s.submits port I.Window refl k;
 }
 
 -- what a body submits
@@ -103,7 +106,7 @@ pub submits_open : (functions : List Function) (row : List Statement) (env : Env
     → Only (λ (left : Left). some_closes left.submits ≡ false) (runs functions row env turns)
 submits_open functions row env turns =
     by (runs functions row env turns)
-    (body_keeps (bodies_of functions turns) everything everything Open (open_kept functions turns) row env turns (row_all row (all_statements row)) refl)
+    (body_keeps (bodies_of functions turns) everything every_submit Open (open_kept functions turns) row env turns (row_all row (all_statements row)) refl)
   where
     by : (o : Outcome Left) → Only (LeftBy Open) o → Only (λ (left : Left). some_closes left.submits ≡ false) o
     by (Done left turns) h = ap some_closes (sym h.2) ∙ h.1

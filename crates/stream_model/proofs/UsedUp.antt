@@ -4,10 +4,11 @@ use Rattle.std.specs.Option.{option_or}
 use Rattle.std.proofs.lemmas.Bool.{cond-true, and_parts}
 use Rattle.spl_value.specs.declared.item.Item.{Item}
 use Rattle.spl_value.specs.declared.item.Item.TheVariants as I
-use Rattle.stream_model.specs.Stream.{Event, is_final, is_fault, closes, any_closes, is_closed, is_empty}
+use Rattle.stream_model.specs.Stream.{Event, is_final, is_fault, any_closes, is_closed, is_empty}
+use Rattle.spl_value.specs.Numbered.{closes}
 use Rattle.stream_model.specs.Inputs.{came_on}
 use Rattle.stream_model.specs.Operators.{Operator, ports}
-use Rattle.stream_model.specs.PortEvents.{is_over, all_over, is_waiting, is_last}
+use Rattle.stream_model.specs.PortEvents.{is_over, all_over, is_waiting, ends_all}
 use Rattle.stream_model.proofs.parts.PortEvents.{all_ended}
 use Rattle.stream_model.specs.React.{Reaction, Gives, Faults, body, ended, ended_by}
 use Rattle.stream_model.proofs.StageLaws.{stage_at}
@@ -40,7 +41,7 @@ all_over-at (p ∷ ps) from (suc j) i h all lt at =
 
 pub over_at_end : (op : Operator) (seen : List Event) (e : Event) (i : ℕ) → ended op seen e ≡ Some I.Final → i < length (ports op) → is_over (e ∷ seen) i ≡ true
 over_at_end op seen e i h lt =
-    let last = final_is_last op e.item (is_fault e.item) (is_waiting op seen e) (is_last op seen e) (body op seen e) refl h in
+    let last = final_is_last op e.item (is_fault e.item) (is_waiting op seen e) (ends_all op seen e) (body op seen e) refl h in
     let all = and_parts (is_final e.item) (all_ended op (e ∷ seen)) last in
     all_over-at (ports op) 0 i i (e ∷ seen) all.1 lt (omega arith)
 

@@ -6,7 +6,7 @@ use Rattle.spl_value.specs.declared.item.Item.TheVariants as I
 use Rattle.stream_model.specs.Stream.{Event, came, is_final}
 use Rattle.stream_model.specs.Operators.{Operator, ports_from, ports}
 use Rattle.stream_model.specs.parts.Operators.{port_at}
-use Rattle.stream_model.specs.PortEvents.{is_over, all_over, is_waiting, is_last}
+use Rattle.stream_model.specs.PortEvents.{is_over, all_over, is_waiting, ends_all}
 use Rattle.stream_model.specs.React.{body, answered, ended_by}
 use Rattle.stream_model.specs.Laws.{WaitLaw, PortsLaw}
 
@@ -48,8 +48,8 @@ waits op i j p earlier at other apart none =
 pub wait_law : WaitLaw
 wait_law op i j p earlier at other apart none =
     let w = waits op i j p earlier at other apart none in (
-      cond-true (is_waiting op earlier (came i I.Final)) [] (answered op (is_last op earlier (came i I.Final)) (body op earlier (came i I.Final))) w,
-      cond-true (is_waiting op earlier (came i I.Final)) None (ended_by op (is_last op earlier (came i I.Final)) (body op earlier (came i I.Final))) w,
+      cond-true (is_waiting op earlier (came i I.Final)) [] (answered op (ends_all op earlier (came i I.Final)) (body op earlier (came i I.Final))) w,
+      cond-true (is_waiting op earlier (came i I.Final)) None (ended_by op (ends_all op earlier (came i I.Final)) (body op earlier (came i I.Final))) w,
     )
 
 pub slice_get-past : (n : ℕ) (streams : List ℕ) (ps : List ℕ) (i k : ℕ) → k ≡ length streams + i → slice_get (map (λ s. n) streams ++ ps) k ≡ slice_get ps i

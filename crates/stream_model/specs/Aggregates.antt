@@ -1,4 +1,5 @@
--- What an Aggregate gives for the contents with which an item of its port fires, by the items that came on it before, the newest first.
+-- What an Aggregate gives for the contents with which an item of its port fires, by the items that came on it before,
+-- the newest first.
 use Rattle.std.specs.Prelude.{ℕ, ◌+◌, ℤ, pos, ◌+ℤ◌, Bool, true, false, List, [], ◌∷◌, ◌++◌, length, Option, None, Some, slice_get, if◌then◌else◌}
 use Rattle.std.specs.List.{filter_map}
 use Rattle.std.specs.Option.{option_and_then, option_map, option_map_or}
@@ -36,7 +37,8 @@ arguments functions (x ∷ xs) env turns =
     followed (option_map_or (λ code. followed (value functions code (world_of env) turns) (λ v turns. Done (Some v) turns)) x.argument (Done None turns))
     (λ a turns. followed (arguments functions xs env turns) (λ more turns. Done (a ∷ more) turns))
 
--- the values of the argument of the assignment with this number, tuple by tuple, as they were evaluated when it came: none where that faulted
+-- the values of the argument of the assignment with this number, tuple by tuple, as they were evaluated when it came:
+-- none where that faulted
 abbrev pub values_of : List Function → List CollectedAttribute → ℕ → List (List Value) → List Value
 values_of functions output k ts =
     filter_map (λ t. option_and_then (λ a. a) (slice_get (done_or (λ values. values) (arguments functions output (at_tuple t) most_turns) []) k)) ts
@@ -61,7 +63,8 @@ last [] = None
 last (v ∷ []) = Some v
 last (v ∷ w ∷ vs) = last (w ∷ vs)
 
--- what a collector makes of the values of its argument for n tuples: a sum wraps in its type, and so does the number of tuples in int32
+-- what a collector makes of the values of its argument for n tuples: a sum wraps in its type, and so does the number of
+-- tuples in int32
 abbrev pub collected : Collector → ℕ → List Value → Option Value
 collected (K.Sum kind) n vs = Some (V.Int (wrapped kind (total vs)))
 collected K.Min n vs = least_by is_below vs

@@ -1,4 +1,5 @@
--- Arrival records as they are handed out: a list for each operator with several connections, in the order of the operators.
+-- Arrival records as they are handed out: a list for each operator with several connections, in the order of the
+-- operators.
 use Rattle.std.specs.Prelude.{ℕ, ◌==◌, Bool, true, false, List, [], ◌∷◌, Some, None, if◌then◌else◌}
 use Rattle.std.specs.List.{filter_map}
 use Rattle.stream_model.specs.declared.record.ArrivalList.{ArrivalList}

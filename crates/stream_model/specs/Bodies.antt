@@ -1,8 +1,9 @@
--- What the bodies of operators with one port, and of a Union, make of an item of a port: items on the output ports, with the turns
--- that are left of an event's, or a fault.
+-- What the bodies of operators with one port, and of a Union, make of an item of a port: items on the output ports,
+-- with the turns that are left of an event's, or a fault.
 --
--- A body has a meaning for each tuple. Where a tuple doesn't fit, so that an expression has no value for it, the event faults, as it does
--- for a row that doesn't fit; no run has such a tuple. The index of a Split that is no integer counts as 0.
+-- A body has a meaning for each tuple. Where a tuple doesn't fit, so that an expression has no value for it, the event
+-- faults, as it does for a row that doesn't fit; no run has such a tuple. The index of a Split that is no integer
+-- counts as 0.
 use Prim.Native.Nat.{zero, suc}
 use Rattle.std.specs.Prelude.{ℕ, ℤ, pos, negsuc, ◌%◌, Bool, true, List, [], ◌∷◌, ◌++◌, Option, None, Some, slice_get, if◌then◌else◌}
 use Rattle.std.specs.Option.{option_and_then, option_map, option_map_or}
@@ -67,7 +68,8 @@ passes functions condition env turns = option_map_or (λ code. holds functions c
 
 -- the tuple that an expression gives
 abbrev pub tuple_by : List Function → Code Slot → Env → ℕ → Outcome (List Value)
-tuple_by functions code env turns = followed (value functions code (world_of env) turns) (λ v turns. need (level_tuple (out-Value v)) (λ vs. Done vs turns))
+tuple_by functions code env turns = followed (value functions code (world_of env) turns) (λ v turns.
+    need (level_tuple (out-Value v)) (λ vs. Done vs turns))
 
 -- where the condition holds, the tuple that the expression gives, and else nothing
 abbrev pub made_where : List Function → Option (Code Slot) → Code Slot → Env → ℕ → Makes
@@ -102,7 +104,8 @@ with_marker P.After vs = on_first (I.Tuple vs) ++ on_first I.Window
 -- a Punctor passes all, and adds a window marker at a tuple for which its condition holds
 abbrev pub punctor_body : List Function → Code Slot → Position → Item → Makes
 punctor_body functions condition position = by_item
-    (λ vs. followed (holds functions condition (at_tuple vs) most_turns) (λ b turns. Done (if b then with_marker position vs else on_first (I.Tuple vs)) turns))
+    (λ vs. followed (holds functions condition (at_tuple vs) most_turns) (λ b turns.
+    Done (if b then with_marker position vs else on_first (I.Tuple vs)) turns))
     (on_first I.Window)
 
 -- an item on the port that an index picks of n: none where the index is negative, and else its remainder by n
@@ -113,7 +116,8 @@ on_picked n (negsuc i) x = []
 -- a Split gives each tuple on the port that its index picks of n, and window markers on each
 abbrev pub split_body : List Function → Code Slot → ℕ → Item → Makes
 split_body functions index n = by_item
-    (λ vs. followed (value functions index (world_of (at_tuple vs)) most_turns) (λ v turns. Done (on_picked n (integer_of (out-Value v)) (I.Tuple vs)) turns))
+    (λ vs. followed (value functions index (world_of (at_tuple vs)) most_turns) (λ v turns.
+    Done (on_picked n (integer_of (out-Value v)) (I.Tuple vs)) turns))
     (on_each n I.Window)
 
 -- the values at these places, where each is there

@@ -35,8 +35,8 @@ abbrev pub code_at : ℕ → List (ℕ × Code Slot) → Option (Code Slot)
 code_at a [] = None
 code_at a (f ∷ fs) = if f.0 == a then Some f.1 else code_at a fs
 
--- of a tuple that an expression gives: of the tuple of the port itself each attribute is its own copy, and of a literal those that are an
--- attribute of the port alone
+-- of a tuple that an expression gives: of the tuple of the port itself each attribute is its own copy, and of a literal
+-- those that are an attribute of the port alone
 abbrev pub level_source : ℕ → Code-F Slot (Code Slot) → Option ℕ
 level_source a (C.Name (L.Port zero)) = Some a
 level_source a (C.Tuple fields) = option_and_then attribute_alone (code_at a fields)
@@ -72,14 +72,15 @@ agreed a (code ∷ []) = tuple_source a code
 agreed a (code ∷ next ∷ codes) =
     option_and_then (λ b. option_and_then (λ c. if c == b then Some b else None) (agreed a (next ∷ codes))) (tuple_source a code)
 
--- Of an attribute of `partitionBy`, the first or the last of a group has the value that all tuples of the group's partition have.
+-- Of an attribute of `partitionBy`, the first or the last of a group has the value that all tuples of the group's
+-- partition have.
 abbrev pub picks : Collector → Bool
 picks K.First = true
 picks K.Last = true
 picks _ = false
 
--- what an assignment of an Aggregate gives, where it is an attribute of `partitionBy` alone. An attribute that isn't assigned has the last
--- tuple's attribute of its name
+-- what an assignment of an Aggregate gives, where it is an attribute of `partitionBy` alone. An attribute that isn't
+-- assigned has the last tuple's attribute of its name
 abbrev pub kept_source : List ℕ → CollectedAttribute → Option ℕ
 kept_source partition x = if picks x.collector
     then option_and_then (λ b. if list_any (λ p. p == b) partition then Some b else None) (option_and_then attribute_alone x.argument) else None
@@ -88,8 +89,9 @@ abbrev pub aggregate_source : List ℕ → List CollectedAttribute → ℕ → O
 aggregate_source partition [] a = None
 aggregate_source partition (x ∷ xs) a = if x.attribute == a then kept_source partition x else aggregate_source partition xs a
 
--- The input attribute of which an output attribute is a copy. Of a Union with several ports it is that of the first port. In a Custom no body on
--- a marker submits a tuple, and every tuple that is submitted is the input tuple itself or a literal that gives that attribute.
+-- The input attribute of which an output attribute is a copy. Of a Union with several ports it is that of the first
+-- port. In a Custom no body on a marker submits a tuple, and every tuple that is submitted is the input tuple itself or
+-- a literal that gives that attribute.
 abbrev pub source_of : CheckedClauses → ℕ → Option ℕ
 source_of (A.Filter condition) a = Some a
 source_of (A.Punctor condition position) a = Some a

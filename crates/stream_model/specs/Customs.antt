@@ -1,5 +1,5 @@
--- What a Custom does at an item of a port, by the items that came before it. A history has its newest event first, and the number of an
--- event is that of its port: a final marker stands for the end of the port.
+-- What a Custom does at an item of a port, by the items that came before it. A history has its newest event first, and
+-- the number of an event is that of its port: a final marker stands for the end of the port.
 --
 -- A first value that isn't one of literals, which no checked graph has, counts as false.
 use Rattle.std.specs.Prelude.{ℕ, false, List, [], ◌∷◌, map, Option, None, Some, slice_get, if◌then◌else◌}

@@ -1,5 +1,5 @@
--- How a run ends: the ends of a graph are its operators without output ports and its streams that nobody reads, and the run's
--- fault is that of the first end that ended with one.
+-- How a run ends: the ends of a graph are its operators without output ports and its streams that nobody reads, and the
+-- run's fault is that of the first end that ended with one.
 use Rattle.std.specs.Prelude.{ℕ, ◌==◌, Bool, List, [], ◌∷◌, map, Option, None, Some, if◌then◌else◌}
 use Rattle.std.specs.List.{list_any}
 use Rattle.std.specs.Option.{option_and_then, option_or}
@@ -45,8 +45,8 @@ abbrev pub first_fault : List (Option Fault) → Option Fault
 first_fault [] = None
 first_fault (o ∷ os) = option_or o (first_fault os)
 
--- the fault of the first of an operator's ends with one: its own where it has no output port, else that of one of its streams
--- that nobody reads
+-- the fault of the first of an operator's ends with one: its own where it has no output port, else that of one of its
+-- streams that nobody reads
 abbrev pub end_fault : Graph → Meaning → Operator → List ℕ → Option Fault
 end_fault g m op [] = option_and_then fault_of (end_from (start op) (m.events op.number))
 end_fault g m op (s ∷ outs) = first_fault (map (unread_fault g m) (s ∷ outs))

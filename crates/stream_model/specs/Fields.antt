@@ -14,11 +14,12 @@ use Rattle.spl_value.specs.declared.types.SplType.TheOpen.{SplType-F}
 use Rattle.spl_value.specs.declared.types.SplType.TheViews.{out-SplType}
 use Rattle.spl_value.specs.Decimal.{integer_of}
 
--- the value of a field that fits the type: an integer is an optional `-` and digits in the type's range, a boolean is `true` or `false`, and an
--- rstring is any bytes; other types have no text form
+-- the value of a field that fits the type: an integer is an optional `-` and digits in the type's range, a boolean is
+-- `true` or `false`, and an rstring is any bytes; other types have no text form
 abbrev pub level_value : {A : Type 0} → SplType-F A → List ℕ → Option Value
 level_value (T.Int k) field = option_map V.Int (integer_of k field)
-level_value T.Bool field = if bytes_eq field (codes "true") then Some (V.Bool true) else if bytes_eq field (codes "false") then Some (V.Bool false) else None
+level_value T.Bool field = if bytes_eq field (codes "true") then Some (V.Bool true)
+    else if bytes_eq field (codes "false") then Some (V.Bool false) else None
 level_value T.Text field = Some (V.Text field)
 level_value (T.List t) field = None
 level_value (T.Map k t) field = None

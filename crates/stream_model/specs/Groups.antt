@@ -1,5 +1,6 @@
--- The groups of a window's content by the places of `groupBy`, which stand in the order of the text. A place that a tuple doesn't
--- have is left out of its key. Without places the tuples, where there are some, are one group, with the key [].
+-- The groups of a window's content by the places of `groupBy`, which stand in the order of the text. A place that a
+-- tuple doesn't have is left out of its key. Without places the tuples, where there are some, are one group, with the
+-- key [].
 use Rattle.std.specs.Prelude.{ℕ, List, map, filter}
 use Rattle.spl_value.specs.declared.value.Value.{Value}
 use Rattle.spl_value.specs.Key.{key_of}

@@ -1,5 +1,5 @@
--- What a Join gives for a tuple, by the items that came on its two ports before, the newest first: one tuple for each of the other side's
--- window that matches it, the oldest first.
+-- What a Join gives for a tuple, by the items that came on its two ports before, the newest first: one tuple for each
+-- of the other side's window that matches it, the oldest first.
 use Rattle.std.specs.Prelude.{ℕ, zero, suc, List, [], ◌∷◌, ◌++◌, map, Option, None}
 use Rattle.spl_value.specs.declared.item.Item.{Item}
 use Rattle.spl_value.specs.declared.value.Value.{Value}

@@ -9,7 +9,8 @@ use Rattle.spl_value.specs.declared.value.Value.{Value}
 use Rattle.language_model.specs.declared.checked.CheckedClauses.{CheckedClauses}
 use Rattle.language_model.specs.declared.checked.CheckedClauses.TheVariants as A
 use Rattle.language_model.specs.declared.outs.Output.{Output}
-use Rattle.stream_model.specs.Stream.{Event, came, is_final, is_fault, closes, any_closes, is_closed, IsPrefix}
+use Rattle.stream_model.specs.Stream.{Event, came, is_final, is_fault, any_closes, is_closed, IsPrefix}
+use Rattle.spl_value.specs.Numbered.{closes}
 use Rattle.stream_model.specs.Operators.{Operator, ports, connections}
 use Rattle.stream_model.specs.React.{react, body, ended, Gives, Faults}
 use Rattle.stream_model.specs.Replies.{is_live}

@@ -7,7 +7,12 @@ pub mod Aggregates
 pub mod Joins
 pub mod React
 pub mod Stages
+pub mod Chains
+pub mod Sending
+pub mod Fans
+pub mod Replicas
 pub mod Replies
+pub mod Went
 pub mod Fitting
 pub mod Meaning
 pub mod Ends
@@ -30,5 +35,8 @@ pub mod GroupLaws
 pub mod Records
 pub mod RecordLaws
 pub mod Arrivals
+pub mod Runs
+pub mod RunLaws
+pub mod SourceFaults
 pub mod examples
 pub mod parts

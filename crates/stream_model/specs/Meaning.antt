@@ -30,7 +30,8 @@ abbrev pub taking : ℕ → List Item → (List Item → List Event) → List Ev
 taking i [] behind = []
 taking i (x ∷ items) behind = came i x ∷ behind items
 
--- the events that the entries of a record take, each the next item of the list that it names, as far as each named list has one
+-- the events that the entries of a record take, each the next item of the list that it names, as far as each named list
+-- has one
 abbrev pub arrive : Lists → List ℕ → List Event
 arrive lists [] = []
 arrive lists (i ∷ entries) = taking i (lists i) (λ items. arrive (λ j. if j == i then items else lists j) entries)
@@ -80,7 +81,8 @@ meaning g rows entries = record {
   events = λ n. option_map_or (λ op. events_of op (streams_of (reverse (in_topo g)) rows entries) (entries n)) (slice_get g.ops n) [];
 }
 
--- the stream of a source, for what its reader gives, of at most 2^40 bytes; a bad row is a fault where the source is strict
+-- the stream of a source, for what its reader gives, of at most 2^40 bytes; a bad row is a fault where the source is
+-- strict
 abbrev pub rows_of : Operator → Bool → Script → List Item
 rows_of op strict script =
     rows (record { op = op.number; schema = output_attributes op 0; strict = strict; limit = 2 ^ 40 }) script.bytes script.ending

@@ -8,8 +8,8 @@ use Rattle.language_model.specs.declared.checked.CheckedClauses.{CheckedClauses}
 use Rattle.language_model.specs.declared.checked.PortTypes.{PortTypes}
 use Rattle.language_model.specs.StreamTypes.{Attributes}
 
--- its number, its checked clauses, the functions that these may call, the attributes of its input and output ports, the streams
--- that each input port takes, and the stream of each output port
+-- its number, its checked clauses, the functions that these may call, the attributes of its input and output ports, the
+-- streams that each input port takes, and the stream of each output port
 pub record Operator : Type 0 where
   pub number : ℕ
   pub clauses : CheckedClauses

@@ -1,5 +1,6 @@
--- The events of an operator by its ports. A history has its newest event first. An event of a port has the port's number, and the final
--- marker of a port stands for its end: those for whose port another connection is still without one are left out.
+-- The events of an operator by its ports. A history has its newest event first. An event of a port has the port's
+-- number, and the final marker of a port stands for its end: those for whose port another connection is still without
+-- one are left out.
 use Prim.Native.Nat.{suc}
 use Rattle.std.specs.Prelude.{ℕ, ◌==◌, Bool, true, false, ◌&&◌, not, List, [], ◌∷◌, map, slice_index, if◌then◌else◌}
 use Rattle.spl_value.specs.declared.item.Item.{Item}
@@ -22,8 +23,8 @@ abbrev pub is_waiting : Operator → List Event → Event → Bool
 is_waiting op earlier event = is_final event.item && not (all_over (λ p. p == slice_index (ports op) event.input) (ports op) 0 (event ∷ earlier))
 
 -- all ports have ended with this event
-abbrev pub is_last : Operator → List Event → Event → Bool
-is_last op earlier event = is_final event.item && all_over (λ p. true) (ports op) 0 (event ∷ earlier)
+abbrev pub ends_all : Operator → List Event → Event → Bool
+ends_all op earlier event = is_final event.item && all_over (λ p. true) (ports op) 0 (event ∷ earlier)
 
 -- what came by ports
 abbrev pub port_events : Operator → List Event → List Event
@@ -31,8 +32,8 @@ port_events op [] = []
 port_events op (e ∷ h) = if is_waiting op h e then port_events op h else came (slice_index (ports op) e.input) e.item ∷ port_events op h
 
 -- the items of a port
-abbrev pub items_of : ℕ → List Event → List Item
-items_of port h = came_on (λ p. p == port) h
+abbrev pub port_items : ℕ → List Event → List Item
+port_items port h = came_on (λ p. p == port) h
 
 -- the operator with a single connection at each port
 abbrev pub by_ports : Operator → Operator

@@ -10,7 +10,7 @@ use Rattle.language_model.specs.declared.outs.Output.{Output}
 use Rattle.language_model.specs.Outcomes.{Done, Faulted, Stuck}
 use Rattle.stream_model.specs.Stream.{Event, is_fault}
 use Rattle.stream_model.specs.Operators.{Operator, ports}
-use Rattle.stream_model.specs.PortEvents.{is_waiting, is_last, items_of, port_events}
+use Rattle.stream_model.specs.PortEvents.{is_waiting, ends_all, port_items, port_events}
 use Rattle.stream_model.specs.Bodies.{Makes, most_turns, on_first, on_each, by_item, filter_body, functor_body, punctor_body, split_body, union_body}
 use Rattle.stream_model.specs.Customs.{custom_body}
 use Rattle.stream_model.specs.Aggregates.{aggregate_body}
@@ -18,8 +18,9 @@ use Rattle.stream_model.specs.Joins.{join_body}
 
 -- ---- bodies
 
--- What the operator with these clauses makes of an item of a port, by what came on its ports before: of a tuple, of a window marker, or of
--- the end of the port by its final marker. A FileSink gives its tuples to its writer, which stands as port 0.
+-- What the operator with these clauses makes of an item of a port, by what came on its ports before: of a tuple, of a
+-- window marker, or of the end of the port by its final marker. A FileSink gives its tuples to its writer, which stands
+-- as port 0.
 abbrev pub makes_by : CheckedClauses → Operator → List Event → ℕ → Item → Makes
 makes_by (A.FileSource file strict) op earlier port x = Done [] most_turns
 makes_by (A.FileSink file) op earlier port x = by_item (λ vs. Done (on_first (I.Tuple vs)) most_turns) [] x
@@ -30,9 +31,9 @@ makes_by (A.Split index) op earlier port x = split_body op.functions index (leng
 makes_by (A.Union places) op earlier port x = union_body places port x
 makes_by (A.Custom handlers) op earlier port x = custom_body op.functions handlers earlier port x
 makes_by (A.Aggregate window partition group collects) op earlier port x =
-    aggregate_body op.functions window partition group collects (items_of 0 earlier) x
+    aggregate_body op.functions window partition group collects (port_items 0 earlier) x
 makes_by (A.Join left right condition made) op earlier port x =
-    join_body op.functions left right condition made (items_of 0 earlier) (items_of 1 earlier) port x
+    join_body op.functions left right condition made (port_items 0 earlier) (port_items 1 earlier) port x
 
 -- what an operator's body makes of an event: items on its output ports, or a fault
 pub data Reaction : Type 0 where
@@ -66,7 +67,7 @@ abbrev pub react : Operator → List Event → Event → List Output
 react op earlier event =
     if is_fault event.item then on_each (length op.outs) event.item
     else if is_waiting op earlier event then []
-    else answered op (is_last op earlier event) (body op earlier event)
+    else answered op (ends_all op earlier event) (body op earlier event)
 
 -- the fault or the final marker with which the body's answer ends the operator
 abbrev pub ended_by : Operator → Bool → Reaction → Option Item
@@ -78,4 +79,4 @@ abbrev pub ended : Operator → List Event → Event → Option Item
 ended op earlier event =
     if is_fault event.item then Some event.item
     else if is_waiting op earlier event then None
-    else ended_by op (is_last op earlier event) (body op earlier event)
+    else ended_by op (ends_all op earlier event) (body op earlier event)

@@ -1,6 +1,6 @@
--- Arrival records that are whole: each entry names an input and finds an item, and the operator ends at the last entry and not
--- before. Records are asked for operators with several connections alone: one without a connection has none that is whole, since an
--- empty record ends no operator.
+-- Arrival records that are whole: each entry names an input and finds an item, and the operator ends at the last entry
+-- and not before. Records are asked for operators with several connections alone: one without a connection has none
+-- that is whole, since an empty record ends no operator.
 use Prim.Native.Nat.{zero, suc}
 use Rattle.std.specs.Prelude.{ℕ, ◌==◌, nat_lt, Bool, false, ◌&&◌, List, [], ◌∷◌, ◌++◌, map, length, if◌then◌else◌}
 use Rattle.std.specs.List.{list_all}
@@ -15,8 +15,8 @@ abbrev pub ends_at_last : Stage → List Event → Bool
 ends_at_last s [] = false
 ends_at_last s (e ∷ events) = if (next s e).over then is_empty events else ends_at_last (next s e) events
 
--- the record of an operator is whole for the lists of its inputs: each entry names an input and finds an item in its list, and the operator ends
--- at the last one
+-- the record of an operator is whole for the lists of its inputs: each entry names an input and finds an item in its
+-- list, and the operator ends at the last one
 abbrev pub is_whole : Operator → Lists → List ℕ → Bool
 is_whole op lists entries = list_all (λ i. nat_lt i (length (ports op))) entries && (length (arrive lists entries) == length entries)
     && ends_at_last (start op) (arrive lists entries)

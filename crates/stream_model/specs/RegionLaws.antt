@@ -7,8 +7,8 @@ use Rattle.stream_model.specs.Regions.{IsLocal, IsStateless}
 
 -- where the clauses of an operator with one connection keep no state, what an event causes depends on the event alone
 abbrev pub StatelessLaw : Type 0
-StatelessLaw = (op : Operator) (s : ℕ) → op.ins ≡ (s ∷ []) ∷ [] → state_of op.clauses ≡ K.Stateless → IsStateless op
+StatelessLaw = (op : Operator) (s : ℕ) → op.ins ≡ (s ∷ []) ∷ [] → state_of op ≡ K.Stateless → IsStateless op
 
 -- where they keep a state for each key, what a tuple causes depends on the tuples with its key alone, and what a marker causes on itself alone
 abbrev pub KeyedLaw : Type 0
-KeyedLaw = (op : Operator) (s : ℕ) (places : List ℕ) → op.ins ≡ (s ∷ []) ∷ [] → state_of op.clauses ≡ K.Keyed places → IsLocal op places
+KeyedLaw = (op : Operator) (s : ℕ) (places : List ℕ) → op.ins ≡ (s ∷ []) ∷ [] → state_of op ≡ K.Keyed places → IsLocal op places

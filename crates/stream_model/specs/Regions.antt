@@ -1,5 +1,6 @@
--- Regions of operators that may run in replicas: what the meaning of an operator has to be for that, in its own words (`IsLocal`, `IsStateless`,
--- `Causes`, `IsCopy`), and which regions a graph has by the clauses of its operators (`is_safe`, `IsPlan`).
+-- Regions of operators that may run in replicas: what the meaning of an operator has to be for that, in its own words
+-- (`IsLocal`, `IsStateless`, `Causes`, `IsCopy`), and which regions a graph has by the clauses of its operators
+-- (`is_safe`, `IsPlan`).
 --
 -- A history has its newest event first. The operators here have one connection and one output port.
 use Rattle.std.specs.Prelude.{◌≡◌, ◌≤◌, ◌⊎◌, ⊤, ℕ, zero, suc, ◌==◌, ◌&&◌, ◌||◌, not, Bool, true, false, List, [], ◌∷◌, ◌++◌, map, filter, length, take, slice_get, Option, Some, if◌then◌else◌}
@@ -8,7 +9,10 @@ use Rattle.std.specs.Option.{option_and_then, option_map_or}
 use Rattle.spl_value.specs.Key.{key_of}
 use Rattle.spl_value.specs.declared.item.Item.{Item}
 use Rattle.spl_value.specs.declared.item.Item.TheVariants as I
+use Rattle.spl_value.specs.declared.routing.Routing.{Routing}
+use Rattle.spl_value.specs.declared.routing.Routing.TheVariants as R
 use Rattle.spl_value.specs.declared.value.Value.{Value}
+use Rattle.spl_value.specs.Numbered.{Rule, ByTurns, ByNumbers, ByPulses}
 use Rattle.language_model.specs.declared.outs.Output.{Output}
 use Rattle.stream_model.specs.declared.plan.Gives.{Gives}
 use Rattle.stream_model.specs.declared.plan.Gives.TheVariants as G
@@ -22,7 +26,7 @@ use Rattle.spl_value.specs.KeyOrder.{same_key}
 use Rattle.stream_model.specs.Operators.{Operator, connections, input_attributes}
 use Rattle.stream_model.specs.React.{react}
 use Rattle.stream_model.specs.Replies.{is_live}
-use Rattle.stream_model.specs.StateKinds.{state_of, is_keyed, is_whole}
+use Rattle.stream_model.specs.StateKinds.{state_of, is_keyed, is_whole_state}
 use Rattle.stream_model.specs.Copies.{source_of}
 use Rattle.stream_model.specs.Selectivity.{gives, is_single}
 use Rattle.stream_model.specs.Meaning.{Graph}
@@ -73,9 +77,10 @@ pub record IsCopy (op : Operator) (a b : ℕ) : Type 0 where
 
 -- ---- chains of a graph
 
--- an operator may stand in a region: it has one connection and one output port, and its state, where it has one, is kept by keys
+-- an operator may stand in a region: it has one connection and one output port, and its state, where it has one, is
+-- kept by keys
 abbrev pub is_eligible : Operator → Bool
-is_eligible op = is_single (connections op) && (is_single op.outs && not (is_whole (state_of op.clauses)))
+is_eligible op = is_single (connections op) && (is_single op.outs && not (is_whole_state (state_of op)))
 
 -- an operator reads the stream of the one before, which no other connection takes
 abbrev pub follows : Graph → Operator → Operator → Bool
@@ -89,8 +94,8 @@ is_chain g (op ∷ next ∷ ops) = is_eligible op && (follows g op next && is_ch
 
 -- ---- the key of a chain
 
--- one of an operator's keys is a copy of the attribute a of the stream that the chain reads, where `source` leads from the attributes of the
--- operator's input to those of that stream. An operator that isn't Keyed asks for none
+-- one of an operator's keys is a copy of the attribute a of the stream that the chain reads, where `source` leads from
+-- the attributes of the operator's input to those of that stream. An operator that isn't Keyed asks for none
 abbrev pub has_copy : (ℕ → Option ℕ) → StateKind → ℕ → Bool
 has_copy source K.Stateless a = true
 has_copy source (K.Keyed places) a = list_any (λ p. option_map_or (λ b. b == a) (source p) false) places
@@ -99,10 +104,10 @@ has_copy source K.Whole a = true
 abbrev pub all_have : (ℕ → Option ℕ) → List Operator → ℕ → Bool
 all_have source [] a = true
 all_have source (op ∷ ops) a =
-    has_copy source (state_of op.clauses) a && all_have (λ p. option_and_then source (source_of op.clauses p)) ops a
+    has_copy source (state_of op) a && all_have (λ p. option_and_then source (source_of op.clauses p)) ops a
 
 abbrev pub any_keyed : List Operator → Bool
-any_keyed ops = list_any (λ (op : Operator). is_keyed (state_of op.clauses)) ops
+any_keyed ops = list_any (λ (op : Operator). is_keyed (state_of op)) ops
 
 abbrev pub numbers_to : ℕ → List ℕ
 numbers_to zero = []
@@ -112,8 +117,8 @@ abbrev pub entry_attributes : List Operator → List ℕ
 entry_attributes [] = []
 entry_attributes (op ∷ ops) = numbers_to (length (input_attributes op 0))
 
--- the attributes of the stream that the chain reads of which each Keyed operator has a copy among its keys, in the order of the schema; none where
--- no operator is Keyed
+-- the attributes of the stream that the chain reads of which each Keyed operator has a copy among its keys, in the
+-- order of the schema; none where no operator is Keyed
 abbrev pub chain_key : List Operator → List ℕ
 chain_key ops = if any_keyed ops then filter (all_have (λ a. Some a) ops) (entry_attributes ops) else []
 
@@ -129,6 +134,28 @@ is_one_class G.Many = false
 -- by turns where each event causes one item and no operator is Keyed, by numbers where one is, and else by pulses
 abbrev pub chain_merge : List Operator → Merge
 chain_merge ops = if list_all (λ (op : Operator). is_one_class (gives op.clauses)) ops then (if any_keyed ops then M.Numbers else M.Turns) else M.Pulses
+
+-- ---- how a region runs
+
+-- the number of its channels, by the width of the run
+abbrev pub width_of : Region → ℕ → ℕ
+width_of region width = width
+
+-- tuples go by the key where there is one, and else all items go in turn
+abbrev pub routing_by : List ℕ → Routing
+routing_by key = if is_empty key then R.Turns else R.Key key
+
+-- how its merger knows that an item is the next
+abbrev pub rule_of : Merge → Rule
+rule_of M.Turns = ByTurns
+rule_of M.Numbers = ByNumbers
+rule_of M.Pulses = ByPulses
+
+-- its splitter sends pulses
+abbrev pub has_pulses : Rule → Bool
+has_pulses ByTurns = false
+has_pulses ByNumbers = false
+has_pulses ByPulses = true
 
 -- ---- plans
 
@@ -148,7 +175,8 @@ IsPartOf [] ys = ⊤
 IsPartOf (x ∷ xs) [] = ⊥
 IsPartOf (x ∷ xs) (y ∷ ys) = ((x ≡ y) × IsPartOf xs ys) ⊎ IsPartOf (x ∷ xs) ys
 
--- a region of some operators: a safe chain that isn't safe with any further operator at its end, with the key and the merge of the chain
+-- a region of some operators: a safe chain that isn't safe with any further operator at its end, with the key and the
+-- merge of the chain
 pub record IsRegion (g : Graph) (region : Region) : Type 0 where
   pub some : is_empty region.ops ≡ false
   pub safe : is_safe g (ops_of g region.ops) ≡ true
@@ -156,8 +184,8 @@ pub record IsRegion (g : Graph) (region : Region) : Type 0 where
   pub key : region.key ≡ chain_key (ops_of g region.ops)
   pub merge : region.merge ≡ chain_merge (ops_of g region.ops)
 
--- the plan of a graph: each eligible operator stands in exactly one region, no other operator stands in one, and regions stand in
--- topological order of their first operators
+-- the plan of a graph: each eligible operator stands in exactly one region, no other operator stands in one, and
+-- regions stand in topological order of their first operators
 pub record IsPlan (g : Graph) (plan : List Region) : Type 0 where
   pub regions : AllByRecursion (IsRegion g) plan
   pub once : (n : ℕ) → how_often n (concat (map (λ (r : Region). r.ops) plan))

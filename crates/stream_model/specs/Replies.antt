@@ -1,12 +1,10 @@
 -- What an operator may be asked, and what it answers: the events that may come after a history, and the answers that are those of the
 -- meaning. A history has its newest event first.
 use Rattle.std.specs.Prelude.{◌≡◌, ◌<◌, ⊤, ℕ, Bool, true, false, IsTrue, List, [], ◌∷◌, length, slice_get, Option, Some, None, is_none, ◌&&◌, ◌==◌}
-use Rattle.spl_value.specs.Values.{fits}
+use Rattle.spl_value.specs.Numbered.{item_fits}
 use Rattle.spl_value.specs.declared.item.Fault.{Fault}
 use Rattle.spl_value.specs.declared.item.Item.{Item}
 use Rattle.spl_value.specs.declared.item.Item.TheVariants as I
-use Rattle.spl_value.specs.declared.types.SplType.TheVariants as T
-use Rattle.spl_value.specs.declared.value.Value.TheVariants as V
 use Rattle.language_model.specs.declared.checked.CheckedClauses.{CheckedClauses}
 use Rattle.language_model.specs.declared.checked.CheckedClauses.TheVariants as A
 use Rattle.language_model.specs.declared.outs.Output.{Output}
@@ -26,10 +24,7 @@ is_live op (e ∷ h) = is_live op h && is_none (ended op h e)
 
 -- a tuple has these attributes
 abbrev pub ItemHas : Attributes → Item → Type 0
-ItemHas schema (I.Tuple vs) = IsTrue (fits (T.Tuple schema) (V.Tuple vs))
-ItemHas schema I.Window = ⊤
-ItemHas schema I.Final = ⊤
-ItemHas schema (I.Bad f) = ⊤
+ItemHas schema x = IsTrue (item_fits schema x)
 
 -- an event may come: the operator hasn't ended, the input is one of its, and open, and a tuple has the input's attributes
 pub record MayTake (op : Operator) (h : List Event) (e : Event) : Type 0 where

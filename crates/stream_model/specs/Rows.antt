@@ -1,5 +1,5 @@
--- The rows of a source's file as its stream, and the text of a stream's tuples as rows. A line is read, and a row written,
--- as `csv` says.
+-- The rows of a source's file as its stream, and the text of a stream's tuples as rows. A line is read, and a row
+-- written, as `csv` says.
 use Rattle.std.specs.Prelude.{◌+◌, ◌-◌, ◌==◌, ◌&&◌, nat_lt, Bool, not, ℕ, List, [], ◌∷◌, length, map, Option, Some, None, if◌then◌else◌}
 use Rattle.std.specs.List.{flat_map, slice_split}
 use Rattle.std.specs.Option.{option_map_or, unwrap_or}
@@ -62,7 +62,8 @@ checked_items o line fault bytes more = option_map_or (λ kind. source_fault o k
 abbrev pub closing : List Item
 closing = I.Window ∷ I.Final ∷ []
 
--- the last piece, which no line feed ends: a line where it isn't empty and the file ends there; where a read failed, its bytes are dropped
+-- the last piece, which no line feed ends: a line where it isn't empty and the file ends there; where a read failed,
+-- its bytes are dropped
 abbrev pub last_items : Setting → Ending → ℕ → ℕ → List ℕ → List Item
 last_items o End line left [] = closing
 last_items o End line left (b ∷ bytes) = checked_items o line (too_long (length (b ∷ bytes)) (length (b ∷ bytes)) left) (b ∷ bytes) closing
@@ -76,8 +77,8 @@ items_from o ending line left (bytes ∷ next ∷ rest) =
     checked_items o line (too_long (length bytes) (length bytes + 1) left) bytes
     (items_from o ending (line + 1) (left - (length bytes + 1)) (next ∷ rest))
 
--- A source's stream: the rows of its lines, which line feeds part, numbered from 1, as tuples, up to the first fault; at the file's end a window
--- marker and the final marker, and where a read failed that fault.
+-- A source's stream: the rows of its lines, which line feeds part, numbered from 1, as tuples, up to the first fault;
+-- at the file's end a window marker and the final marker, and where a read failed that fault.
 abbrev pub rows : Setting → List ℕ → Ending → List Item
 rows o bytes ending = items_from o ending 1 o.limit (slice_split (λ b. b == 10) bytes)
 

@@ -1,6 +1,6 @@
--- How many items each event of an operator causes, by the operator's clauses alone: an interval for the number of submits of a body, statement
--- by statement, and the class of an operator. A `return` makes the least number of its body 0, and what comes after it still counts for the
--- greatest.
+-- How many items each event of an operator causes, by the operator's clauses alone: an interval for the number of
+-- submits of a body, statement by statement, and the class of an operator. A `return` makes the least number of its
+-- body 0, and what comes after it still counts for the greatest.
 use Rattle.std.specs.Prelude.{ℕ, zero, suc, ◌+◌, ◌==◌, nat_le, ◌&&◌, ◌||◌, Bool, true, false, if◌then◌else◌, List, [], ◌∷◌, map, Option, None, Some, option_map, min, max}
 use Rattle.std.specs.Option.{option_and_then, option_map_or}
 use Rattle.spl_tree.specs.declared.body.Statement.{Statement}
@@ -25,7 +25,8 @@ use Rattle.stream_model.specs.Customs.{handler}
 
 -- ---- intervals
 
--- the least number of submits where no `return` is reached, the greatest where there is one, and whether a `return` stands there
+-- the least number of submits where no `return` is reached, the greatest where there is one, and whether a `return`
+-- stands there
 pub record Interval : Type 0 where
   pub least : ℕ
   pub most : Option ℕ
@@ -46,7 +47,8 @@ abbrev pub in_turn : List Interval → Interval
 in_turn [] = exactly 0
 in_turn (i ∷ is) = both i (in_turn is)
 
--- any number of times, whatever a marker decides of the condition: what submits nothing submits nothing however often it comes
+-- any number of times, whatever a marker decides of the condition: what submits nothing submits nothing however often
+-- it comes
 abbrev pub any_times : Option ℕ → Option ℕ
 any_times (Some zero) = Some 0
 any_times (Some (suc n)) = None

@@ -1,11 +1,13 @@
 -- Streams: lists of items, the oldest first. Events: items, each with the number of the input that it comes on.
-use Rattle.std.specs.Prelude.{ℕ, Bool, true, false, IsTrue, ⊤, List, [], ◌∷◌, ◌++◌, ◌≡◌, ◌||◌, if◌then◌else◌}
+use Rattle.std.specs.Prelude.{ℕ, Bool, true, false, IsTrue, ⊤, List, [], ◌∷◌, if◌then◌else◌}
+use Rattle.spl_value.specs.Numbered.{closes}
 use Rattle.spl_value.specs.Values.{fits}
 use Rattle.spl_value.specs.declared.item.Item.{Item}
 use Rattle.spl_value.specs.declared.item.Item.TheVariants as I
 use Rattle.spl_value.specs.declared.types.SplType.TheVariants as T
 use Rattle.spl_value.specs.declared.value.Value.TheVariants as V
 use Rattle.language_model.specs.StreamTypes.{Attributes}
+pub use Rattle.spl_value.specs.Numbered.{IsPrefix}
 
 abbrev pub is_tuple : Item → Bool
 is_tuple (I.Tuple vs) = true
@@ -24,10 +26,6 @@ is_fault (I.Tuple vs) = false
 is_fault I.Window = false
 is_fault I.Final = false
 is_fault (I.Bad f) = true
-
--- a final marker or a fault: nothing follows it in a stream
-abbrev pub closes : Item → Bool
-closes x = is_final x || is_fault x
 
 abbrev pub any_closes : List Item → Bool
 any_closes [] = false
@@ -49,10 +47,6 @@ TuplesFit schema (I.Tuple vs ∷ items) = IsTrue (fits (T.Tuple schema) (V.Tuple
 TuplesFit schema (I.Window ∷ items) = TuplesFit schema items
 TuplesFit schema (I.Final ∷ items) = TuplesFit schema items
 TuplesFit schema (I.Bad f ∷ items) = TuplesFit schema items
-
--- the second list is the first with some more after it
-abbrev pub IsPrefix : {A : Type 0} → List A → List A → Type 0
-IsPrefix {A = A} front whole = (rest : List A) × (front ++ rest ≡ whole)
 
 pub record Event : Type 0 where
   pub input : ℕ

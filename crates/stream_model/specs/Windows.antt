@@ -1,14 +1,14 @@
--- What a window of an input port holds for each key, when it fires and with what, by the whole history of what came into it: the
--- items of its own port, also where an operator has a window for each of two ports. A history has its newest event first, and a
--- content its oldest tuple first. A window holds the tuples as they came: that of an Aggregate has no values of arguments after
--- them.
+-- What a window of an input port holds for each key, when it fires and with what, by the whole history of what came
+-- into it: the items of its own port, also where an operator has a window for each of two ports. A history has its
+-- newest event first, and a content its oldest tuple first. A window holds the tuples as they came: that of an
+-- Aggregate has no values of arguments after them.
 --
--- The end of a port leaves its window as it is: the other side of a Join still finds the tuples in it. A window is dropped
--- only with its operator.
+-- The end of a port leaves its window as it is: the other side of a Join still finds the tuples in it. A window is
+-- dropped only with its operator.
 --
--- A tuple that doesn't fit its window still has a meaning: a place of the key that it doesn't have is left out of its key, and an
--- attribute that it doesn't have, or that is no integer, counts as 0. The checks of clauses see to it that the n of a tumbling
--- window and the number of a trigger aren't 0.
+-- A tuple that doesn't fit its window still has a meaning: a place of the key that it doesn't have is left out of its
+-- key, and an attribute that it doesn't have, or that is no integer, counts as 0. The checks of clauses see to it that
+-- the n of a tumbling window and the number of a trigger aren't 0.
 use Prim.Native.Nat.{suc}
 use Rattle.std.specs.Prelude.{ℕ, ℤ, pos, ◌-ℤ◌, ◌%◌, ◌==◌, Bool, true, false, not, ◌&&◌, List, [], ◌∷◌, ◌++◌, map, length, take, slice_get, int_lt, Option, Some, None, if◌then◌else◌}
 use Rattle.std.specs.List.{list_any}
@@ -43,8 +43,8 @@ pub data WindowEvent : Type 0 where
   Insert : (key tuple : List Value) → WindowEvent
   Mark : WindowEvent
 
--- the key of a tuple: in a partitioned window its values at the places of `partitionBy`, in the order of the text. In a window
--- that isn't partitioned all tuples have one key, []
+-- the key of a tuple: in a partitioned window its values at the places of `partitionBy`, in the order of the text. In a
+-- window that isn't partitioned all tuples have one key, []
 abbrev pub partition_key : Policy → List ℕ → List Value → List Value
 partition_key policy places t = if policy.partitioned then key_of t places else []
 
@@ -119,8 +119,9 @@ exceeds a limit new old = int_lt limit (integer_at a new -ℤ integer_at a old)
 
 -- ---- contents
 
--- What the window of a key holds of its t tuples: the last `t mod n`, those from the last start on, all, the last n, or each that
--- no later one exceeds by more than the limit. The tuples are given the newest first, and what is held of them has the oldest first.
+-- What the window of a key holds of its t tuples: the last `t mod n`, those from the last start on, all, the last n, or
+-- each that no later one exceeds by more than the limit. The tuples are given the newest first, and what is held of
+-- them has the oldest first.
 abbrev pub held : WindowRule → List (List Value) → List (List Value)
 held (W.TumblingCount n) ts = in_order (take (length ts % n) ts)
 held (W.TumblingDelta a limit) ts = since_start (exceeds a limit) ts
@@ -144,8 +145,9 @@ pub data Firing : Type 0 where
 abbrev pub trigger_if : Option ℕ → ℕ → List (List Value) → Firing
 trigger_if trigger n ts = option_map_or (λ every. if (n % every) == 0 then Triggers ts else Silent) trigger Silent
 
--- what a tuple of a key fires after the earlier ones, the newest first: one that makes their number a multiple of n flushes the
--- last n, a start that isn't the first tuple flushes what was held before it, and a trigger fires with what is held then
+-- what a tuple of a key fires after the earlier ones, the newest first: one that makes their number a multiple of n
+-- flushes the last n, a start that isn't the first tuple flushes what was held before it, and a trigger fires with what
+-- is held then
 abbrev pub fires_after : WindowRule → List Value → List (List Value) → Firing
 fires_after (W.TumblingCount n) t ts = if (suc (length ts) % n) == 0 then Flushes (in_order (take n (t ∷ ts))) else Silent
 fires_after (W.TumblingDelta a limit) t ts =
@@ -154,8 +156,8 @@ fires_after W.TumblingPunct t ts = Silent
 fires_after (W.SlidingCount n every) t ts = trigger_if every (suc (length ts)) (held (W.SlidingCount n every) (t ∷ ts))
 fires_after (W.SlidingDelta a limit every) t ts = trigger_if every (suc (length ts)) (held (W.SlidingDelta a limit every) (t ∷ ts))
 
--- what a window marker flushes after a history, where markers flush: the content of each key of a tuple that came after the
--- last marker before it, by ascending key
+-- what a window marker flushes after a history, where markers flush: the content of each key of a tuple that came after
+-- the last marker before it, by ascending key
 abbrev pub flushed_after : WindowRule → List WindowEvent → List (List Value × List (List Value))
 flushed_after rule h = if flushes_at_markers rule then each_key (λ k. content rule k h) (keys_of (since_mark h)) else []
 
@@ -170,7 +172,8 @@ abbrev pub fired_contents : WindowRule → WindowEvent → List WindowEvent → 
 fired_contents rule Mark h = map (λ e. e.1) (flushed_after rule h)
 fired_contents rule (Insert k t) h = contents_of (fires_after rule t (tuples_with k h))
 
--- the contents with which an item of the port fires after the earlier ones, the newest first. A final marker and a fault fire none
+-- the contents with which an item of the port fires after the earlier ones, the newest first. A final marker and a
+-- fault fire none
 abbrev pub fired_at : WindowRule → (List Value → List Value) → Item → List Item → List (List (List Value))
 fired_at rule key (I.Tuple t) earlier = fired_contents rule (Insert (key t) t) (window_events key earlier)
 fired_at rule key I.Window earlier = fired_contents rule Mark (window_events key earlier)

@@ -8,7 +8,7 @@ ghost use Rattle.stream_model.specs.Copies.{source_of, trace};
 ghost use Rattle.stream_model.specs.RegionLaws.{KeyedLaw, StatelessLaw};
 ghost use Rattle.stream_model.specs.Regions.{IsPlan, chain_key, chain_merge, is_safe, ops_of};
 ghost use Rattle.stream_model.specs.Selectivity.{gives};
-ghost use Rattle.stream_model.specs.StateKinds.{state_of};
+ghost use Rattle.stream_model.specs.StateKinds.{state_by};
 ghost use Rattle.stream_model.specs.examples.SomeRegions.{by_second, changed_key, custom, either_way, one_region, only_positive, partitioned, same_marker, three, two, two_regions};
 
 /// What an event of an operator causes depends on the event alone, where its clauses keep no state. Where they
@@ -22,9 +22,9 @@ pub fn regions_law()
 /// What the clauses of some operators say of their state, of copies, and of how many items their events
 /// cause.
 pub fn clauses_on_literals()
-    ensures keyed { state_of (partitioned (W.TumblingCount 2) (0 ∷ 1 ∷ []) three) ≡ K.Keyed (0 ∷ 1 ∷ []) }
-    ensures by_markers { state_of (partitioned W.TumblingPunct (0 ∷ []) three) ≡ K.Whole }
-    ensures stateless { state_of (custom only_positive (None ∷ [])) ≡ K.Stateless }
+    ensures keyed { state_by (partitioned (W.TumblingCount 2) (0 ∷ 1 ∷ []) three) ≡ K.Keyed (0 ∷ 1 ∷ []) }
+    ensures by_markers { state_by (partitioned W.TumblingPunct (0 ∷ []) three) ≡ K.Whole }
+    ensures stateless { state_by (custom only_positive (None ∷ [])) ≡ K.Stateless }
     ensures copied { source_of (partitioned (W.TumblingCount 2) (0 ∷ 1 ∷ []) three) 1 ≡ Some 1 }
     ensures not_partition { source_of (partitioned (W.TumblingCount 2) (0 ∷ []) three) 1 ≡ None }
     ensures summed { source_of (partitioned (W.TumblingCount 2) (0 ∷ 1 ∷ []) three) 2 ≡ None }

@@ -5,7 +5,7 @@ ghost use Rattle.language_model.specs.declared.checked.WindowRule.TheVariants as
 ghost use Rattle.stream_model.specs.Stream.{came};
 ghost use Rattle.stream_model.specs.Windows.{partition_key, window_events, content, flushed_after, Insert, Mark, Silent, Flushes, Triggers, fired_at, integer_at};
 ghost use Rattle.stream_model.specs.parts.Windows.{tuple_fires};
-ghost use Rattle.stream_model.specs.PortEvents.{items_of, port_events};
+ghost use Rattle.stream_model.specs.PortEvents.{port_items, port_events};
 ghost use Rattle.stream_model.specs.WindowLaws.{TumblingCountLaw, SlidingCountLaw, TumblingDeltaLaw, SlidingDeltaLaw, TumblingCountInsert, TumblingDeltaInsert, TumblingPunctInsert, SlidingCountInsert, SlidingDeltaInsert, PortLaw, OneKeyLaw, OwnKeyLaw, SameKeyLaw, EmptiedLaw, PassingLaw, FlushedBehindLaw, FiredLaw, MappedLaw, MappedFiringLaw, BehindLaw};
 ghost use Rattle.stream_model.specs.examples.WindowExamples.{number, a_with, b_with, key_a, key_b, by_text, of_all, two_ports};
 
@@ -103,15 +103,15 @@ pub fn windows_on_literals()
         ≡ (a_with (pos 2) ∷ []) ∷ (b_with (pos 1) ∷ b_with (pos 0) ∷ []) ∷ [] }
     ensures final_behind_marker { fired_at W.TumblingPunct (λ t. []) I.Final (I.Window ∷ I.Tuple (number (pos 1)) ∷ []) ≡ [] }
     ensures final_behind_flush { fired_at (W.TumblingCount 2) (λ t. []) I.Final (I.Tuple (number (pos 2)) ∷ I.Tuple (number (pos 1)) ∷ []) ≡ [] }
-    ensures items_of_two_streams { items_of 0 (port_events two_ports
+    ensures items_of_two_streams { port_items 0 (port_events two_ports
         (came 1 (I.Tuple (number (pos 3))) ∷ came 2 (I.Tuple (number (pos 7))) ∷ came 0 I.Final ∷ came 0 (I.Tuple (number (pos 1))) ∷ []))
         ≡ I.Tuple (number (pos 3)) ∷ I.Tuple (number (pos 1)) ∷ [] }
     ensures end_of_port { port_events two_ports (came 1 I.Final ∷ came 2 I.Final ∷ came 0 I.Final ∷ []) ≡ came 0 I.Final ∷ came 1 I.Final ∷ [] }
-    ensures window_of_two_streams { content (W.SlidingCount 2 None) [] (window_events (λ t. []) (items_of 0 (port_events two_ports
+    ensures window_of_two_streams { content (W.SlidingCount 2 None) [] (window_events (λ t. []) (port_items 0 (port_events two_ports
         (came 1 (I.Tuple (number (pos 3))) ∷ came 2 (I.Tuple (number (pos 7))) ∷ came 0 (I.Tuple (number (pos 2))) ∷ came 1 (I.Tuple (number (pos 1))) ∷ []))))
         ≡ number (pos 2) ∷ number (pos 3) ∷ [] }
     ensures full_by_two_streams { fired_at (W.TumblingCount 2) (λ t. []) (I.Tuple (number (pos 3)))
-        (items_of 0 (port_events two_ports (came 2 (I.Tuple (number (pos 7))) ∷ came 0 (I.Tuple (number (pos 1))) ∷ [])))
+        (port_items 0 (port_events two_ports (came 2 (I.Tuple (number (pos 7))) ∷ came 0 (I.Tuple (number (pos 1))) ∷ [])))
         ≡ (number (pos 1) ∷ number (pos 3) ∷ []) ∷ [] }
     ensures no_attribute { integer_at 1 (number (pos 5)) ≡ pos 0 }
     ensures no_integer { integer_at 0 (a_with (pos 5)) ≡ pos 0 }

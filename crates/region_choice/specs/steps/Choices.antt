@@ -38,7 +38,7 @@ IsOutside choice n = (i : ℕ) (r : Growing) → slice_get choice.regions i ≡ 
 -- an operator that may stand in a region, with this state and this one connection
 pub record IsCandidate (g : Graph) (counts : List ℕ) (n : ℕ) (stream : ℕ) (state : StateKind) (o : Operator) : Type 0 where
   pub there : slice_get g.ops n ≡ Some o
-  pub state_is : state_of o.clauses ≡ state
+  pub state_is : state_of o ≡ state
   pub eligible : is_eligible o ≡ true
   pub reads : connections o ≡ stream ∷ []
   pub counted : AreReadings g counts
@@ -49,12 +49,12 @@ abbrev pub sole_maker : List Stream → List ℕ → ℕ → Option ℕ
 sole_maker streams counts s =
     option_and_then (λ many. if many == 1 then option_map (λ (made : Stream). made.maker) (slice_get streams s) else None) (slice_get counts s)
 
-abbrev pub is_last : ℕ → List ℕ → Bool
-is_last n ns = option_map_or (λ m. m == n) (slice_get ns (length ns - 1)) false
+abbrev pub is_op_last : ℕ → List ℕ → Bool
+is_op_last n ns = option_map_or (λ m. m == n) (slice_get ns (length ns - 1)) false
 
 -- the place, where it is the one of the operator's region, of which the operator is the last
 abbrev pub ending_at : List Growing → ℕ → ℕ → Option ℕ
-ending_at regions n at = option_and_then (λ (r : Growing). if is_last n r.ops then Some at else None) (slice_get regions at)
+ending_at regions n at = option_and_then (λ (r : Growing). if is_op_last n r.ops then Some at else None) (slice_get regions at)
 
 abbrev pub ending_with : Choice → ℕ → Option ℕ
 ending_with choice n = option_and_then (λ (place : Option ℕ). option_and_then (ending_at choice.regions n) place) (slice_get choice.places n)

@@ -36,9 +36,9 @@ abbrev pub key_with : Growing → List KeySource → List ℕ → List ℕ
 key_with growing sources entries = filter (is_copied sources) (if growing.keyed then growing.key else entries)
 
 -- the first of these operators, or else the one after them
-abbrev pub first_of : ℕ → List ℕ → ℕ
-first_of n [] = n
-first_of n (m ∷ ns) = m
+abbrev pub first_or : ℕ → List ℕ → ℕ
+first_or n [] = n
+first_or n (m ∷ ns) = m
 
 -- ---- one operator more
 

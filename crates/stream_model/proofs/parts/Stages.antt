@@ -5,5 +5,5 @@ use Rattle.stream_model.specs.React.{react}
 use Rattle.stream_model.specs.Stages.{Stage}
 use Rattle.stream_model.specs.Stream.{Event}
 
-abbrev pub gives : Stage → Event → List Output
-gives s e = if s.over then [] else react s.op s.seen e
+abbrev pub stage_outputs : Stage → Event → List Output
+stage_outputs s e = if s.over then [] else react s.op s.seen e

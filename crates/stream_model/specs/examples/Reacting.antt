@@ -47,8 +47,8 @@ abbrev pub fault : FaultKind → Item
 fault kind = I.Bad (record { op = 1; kind = kind; line = 0 })
 
 -- what an operator with one connection gives on a port for these items
-abbrev pub gives : Operator → ℕ → List Item → List Item
-gives op p items = out op p (map (came 0) items)
+abbrev pub gives_items : Operator → ℕ → List Item → List Item
+gives_items op p items = out op p (map (came 0) items)
 
 -- the history of these items, which came in this order on the one connection
 abbrev pub after : List Item → List Event

@@ -33,7 +33,7 @@ pub returns : goal.returns
 returns c =
     let same = c.in_ok-join.ensures.stays c.if-branch.false in
     IfOk-weaker c.begin.result
-    (λ _. (g : Graph) (o : Operator) → graph_of c.args.checked.now ≡ g → slice_get g.ops c.args.op ≡ Some o → is_eligible o ≡ true → state_of o.clauses ≡ c.in_ok-state.state
+    (λ _. (g : Graph) (o : Operator) → graph_of c.args.checked.now ≡ g → slice_get g.ops c.args.op ≡ Some o → is_eligible o ≡ true → state_of o ≡ c.in_ok-state.state
     → IsOutside c.join.new.choice c.args.op → NoneTakes g c.join.new.choice c.args.op → IsPlaced g c.join.new.choice c.args.op c.begin.new.choice)
     (λ _. (g : Graph) → graph_of c.args.checked.now ≡ g → AreReadings g c.args.counts.now → IsOutside c.args.choice.now c.args.op
     → IsSettled g c.args.choice.now c.args.op c.begin.new.choice)

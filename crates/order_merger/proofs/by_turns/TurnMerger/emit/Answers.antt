@@ -12,7 +12,7 @@ returns-after-next-width-clause-stands c width taken given s =
     let next_is : ((c.if-next-width.self ≡ c.self.inside.turn + 1) × (c.self.inside.turn + 1 < width_of c.self.inside.heads))
     ⊎ ((c.if-next-width.self ≡ 0) × (width_of c.self.inside.heads ≤ c.self.inside.turn + 1)) =
     elim c.if-next-width.branch [ then-next-width w ↦ inl (w.self-is, omega arith) | else-next-width w ↦ inr (w.self-is, omega arith) ] in
-    turn_gives width _ _ _ _ _ _ _ c.self.view_is c.in-Some.ensures.gives.2 c.self.invariant c.in-Some.ensures.gives.1 next_is taken given s
+    turn_gives width _ _ _ _ _ _ _ c.self.view_is c.in-Some.ensures.gives_head.2 c.self.invariant c.in-Some.ensures.gives_head.1 next_is taken given s
 
 pub returns-after-next-width-clause-front : goal.returns-after-next-width-clause-front
 returns-after-next-width-clause-front c width taken given s a = turn_front width _ taken _ (returns-after-next-width-clause-stands c width taken given s) a
@@ -21,4 +21,4 @@ pub returns-in-None-clause-front : goal.returns-in-None-clause-front
 returns-in-None-clause-front c w taken given s a = front_still given given _ (turn_front w _ taken given s a)
 
 pub returns-in-None-clause-whole : goal.returns-in-None-clause-whole
-returns-in-None-clause-whole c _ w taken given s a uncut = turn_nothing w _ _ _ c.self.view_is c.self.invariant c.in-None.ensures.gives.0 taken given s a uncut
+returns-in-None-clause-whole c _ w taken given s a uncut = turn_nothing w _ _ _ c.self.view_is c.self.invariant c.in-None.ensures.gives_head.0 taken given s a uncut

@@ -8,7 +8,7 @@ pub returns-in-Some-clause-stands : goal.returns-in-Some-clause-stands
 returns-in-Some-clause-stands c w taken given s =
     let next = c.in-Some.ensures in
     pulse_emits w c.in-Some.channel next.1 next.2 c.args.self.now c.give.new.self c.give.result
-    (subst (λ (h : Held). Gives h c.give.new.self c.in-Some.channel c.give.result) c.self.view_is c.give.ensures.gives)
+    (subst (λ (h : Held). Gives h c.give.new.self c.in-Some.channel c.give.result) c.self.view_is c.give.ensures.gives_head)
     (record { within = next.0; head = next.3; least = next.4; calm = next.5 }) taken given s
 
 pub returns-in-Some-clause-front : goal.returns-in-Some-clause-front
