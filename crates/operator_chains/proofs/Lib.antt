@@ -1,0 +1,4 @@
+pub mod Inner
+pub mod Entering
+pub mod Passing
+pub mod FrontTuples
