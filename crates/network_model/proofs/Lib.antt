@@ -1,0 +1,10 @@
+pub mod Packets
+pub mod Sending
+pub mod Arrivals
+pub mod Chains
+pub mod Merging
+pub mod RegionParts
+pub mod Parts
+pub mod Receipts
+pub mod Adds
+pub mod Fans

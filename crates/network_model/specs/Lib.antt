@@ -1,0 +1,15 @@
+pub mod Packets
+pub mod Networks
+pub mod Receipts
+pub mod Owed
+pub mod Adds
+pub mod Sinks
+pub mod Events
+pub mod States
+pub mod Legal
+pub mod Joined
+pub mod Wiring
+pub mod Flow
+pub mod Draws
+pub mod Picking
+pub mod PartLaws
