@@ -1,0 +1,11 @@
+pub mod Totals
+pub mod Readers
+pub mod Pieces
+pub mod FusedNets
+pub mod Shapes
+pub mod Fusing
+pub mod FusionLaws
+pub mod ElementPorts
+pub mod ShapeLaws
+pub mod examples
+pub mod steps
