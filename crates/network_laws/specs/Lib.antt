@@ -1,0 +1,11 @@
+pub mod Shaped
+pub mod RegionStreams
+pub mod Flowing
+pub mod JoinedLaws
+pub mod LegalLaws
+pub mod RegionLaws
+pub mod PickedLaws
+pub mod Propers
+pub mod PlannedLaws
+pub mod SchemaLaws
+pub mod examples

@@ -1,0 +1,3 @@
+pub mod PathNet
+pub mod RegionNet
+pub mod KeyedNet

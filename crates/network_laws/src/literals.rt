@@ -1,0 +1,43 @@
+ghost use Rattle.network_laws.specs.RegionStreams.{RegionsHold};
+ghost use Rattle.network_laws.specs.RegionLaws.{RegionsObey};
+ghost use Rattle.network_laws.specs.examples.KeyedNet.{keyed_net};
+ghost use Rattle.network_laws.specs.examples.PathNet.{cut_list, no_entries, path_list, path_net, path_rows, some_graph};
+ghost use Rattle.network_laws.specs.examples.RegionNet.{region_list, region_meaning, region_net};
+ghost use Rattle.network_model.specs.Flow.{IsUnder};
+ghost use Rattle.network_model.specs.Joined.{lists_of};
+ghost use Rattle.network_model.specs.Legal.{AllDone, Clean, IsLegal};
+ghost use Rattle.network_model.specs.States.{after_all, begin};
+ghost use Rattle.network_model.specs.Wiring.{IsWired};
+ghost use Rattle.region_laws.specs.examples.SomeReplicas.{filtered_sums};
+ghost use Rattle.std.specs.Prelude.{[]};
+ghost use Rattle.stream_model.specs.Meaning.{Entries, Lists, Meaning, meaning};
+
+/// A source, a filter and a sink over an empty file, with a list of events that comes to its end, and one that is cut.
+pub fn networks_on_literals()
+    ensures wired { IsWired some_graph path_net }
+    ensures regions { (m : Meaning) → RegionsHold path_net m }
+    ensures legal { IsLegal path_net path_list }
+    ensures done { AllDone path_net (after_all path_net begin path_list) }
+    ensures clean { Clean path_net (after_all path_net begin path_list) }
+    ensures under { IsUnder path_net (lists_of path_net (after_all path_net begin path_list)) path_rows no_entries }
+    ensures cut_legal { IsLegal path_net cut_list }
+    ensures cut_done { AllDone path_net (after_all path_net begin cut_list) }
+    ensures cut_under { IsUnder path_net (lists_of path_net (after_all path_net begin cut_list)) path_rows no_entries }
+{}
+
+/// The same with the filter as a region of two channels.
+pub fn regions_on_literals()
+    ensures wired { IsWired some_graph region_net }
+    ensures regions { RegionsHold region_net region_meaning }
+    ensures legal { IsLegal region_net region_list }
+    ensures done { AllDone region_net (after_all region_net begin region_list) }
+    ensures clean { Clean region_net (after_all region_net begin region_list) }
+{}
+
+/// A source, a Filter and an Aggregate by keys as a region of two channels that merges by pulses, and a sink.
+pub fn keys_on_literals()
+    ensures wired { IsWired filtered_sums keyed_net }
+    ensures obeys { RegionsObey keyed_net }
+    ensures regions { (rows : Lists) (entries : Entries) → RegionsHold keyed_net (meaning filtered_sums rows entries) }
+    ensures legal { IsLegal keyed_net [] }
+{}
