@@ -145,10 +145,15 @@ composite Main {
 
 /// The log of a server.
 pub(crate) const LOGS: &str =
-    r#"// The log of a web server, in the common log format: a line has the host, two names, the time in
-// brackets, the request in quotes, the status of the answer and how many bytes it had.
+    r#"// The log of a web server, in the combined log format: a line has the host, two names, the time in
+// brackets, the request in quotes, the status of the answer, how many bytes it had, and in quotes the
+// page that led there and the browser.
 //
-//   10.0.0.7 - anna [04/May/2026:08:00:05 +0000] "GET /cart/show HTTP/1.1" 200 5120
+//   10.0.0.7 - anna [04/May/2026:08:00:05 +0000] "GET /cart/show HTTP/1.1" 200 5120 "-" "curl/8.5.0"
+//
+// Such lines have commas and quotes in them. In lines.csv each is one text in quotes:
+//
+//   sed 's/"/""/g; s/.*/"&"/' access.log >lines.csv
 
 type Request = rstring host, rstring time, rstring method, rstring path, int32 status, int64 bytes;
 type Usage = rstring path, int64 requests, int64 failures, int64 bytes;
@@ -196,10 +201,9 @@ int64 numberOf(rstring text) {
   return number;
 }
 
-// A request has ten words, of which the ninth is a status. What scanners send hasn't.
+// The ninth and tenth word of a request are its status and its bytes. What scanners send has others there.
 boolean isRequest(rstring line) {
-  return word(line, 9) != "" && word(line, 10) == "" && isNumber(word(line, 8))
-      && (word(line, 9) == "-" || isNumber(word(line, 9)));
+  return isNumber(word(line, 8)) && (word(line, 9) == "-" || isNumber(word(line, 9)));
 }
 
 // A path without what follows a question mark.
@@ -213,7 +217,7 @@ composite Main {
   param
     expression<int64> $large : 100000l;
   graph
-    stream<rstring line> Lines = FileSource() { param file: "access.log"; format: csv; }
+    stream<rstring line> Lines = FileSource() { param file: "lines.csv"; format: csv; }
     stream<Lines> Others = Filter(Lines) { param filter: !isRequest(line); }
     stream<Request> Requests = Functor(Lines) {
       param filter: isRequest(line);
