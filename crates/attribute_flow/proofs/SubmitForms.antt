@@ -11,7 +11,7 @@ use Rattle.spl_tree.specs.declared.body.Statement.TheViews.{out-Statement}
 use Rattle.spl_tree.specs.declared.body.Statement.TheFolds.{fold_out-Statement, map-Statement}
 use Rattle.spl_tree.specs.declared.code.Code.{Code}
 use Rattle.spl_tree.specs.declared.code.Slot.{Slot}
-use Rattle.language_model.specs.Slots.{joined}
+use Rattle.spl_value.specs.Flattened.{flattened}
 use Rattle.stream_model.specs.Copies.{level_submits, submits_of}
 use Rattle.attribute_flow.specs.steps.Agreements.{arms_submits, statement_submits}
 
@@ -45,7 +45,7 @@ pub if_is : (arms : List (Code Slot × List Statement)) (other : List Statement)
 if_is arms other = submits_at (T.If arms other) (S.If arms other) (T.outs-If arms other) ∙ ap (λ codes. codes ++ submits_of other) (along arms)
   where
     along : (arms : List (Code Slot × List Statement))
-        → joined (map (λ arm. joined arm.1) (arms_in (map-Statement Statement Codes statement_submits (S.If arms other)))) ≡ arms_submits arms
+        → flattened (map (λ arm. flattened arm.1) (arms_in (map-Statement Statement Codes statement_submits (S.If arms other)))) ≡ arms_submits arms
     along [] = refl
     along (arm ∷ arms) = ap (λ codes. submits_of arm.1 ++ codes) (along arms)
 

@@ -51,7 +51,8 @@ abbrev mutual
   -- the arguments that words are, if each is one by itself or belongs to one
   pub arguments : List (List ℕ) → Option (List Argument)
   arguments [] = Some []
-  arguments (word ∷ words) = elim (word_of word) [ Whole argument ↦ onto argument (arguments words) | Named name ↦ with_value name words ]
+  arguments (word ∷ words) =
+      elim (word_of word) [ Whole argument ↦ onto argument (arguments words) | Named name ↦ with_value name words ]
 
   -- the word after `--name` is its value, whatever it looks like
   pub with_value : List ℕ → List (List ℕ) → Option (List Argument)

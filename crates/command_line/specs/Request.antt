@@ -20,14 +20,22 @@ abbrev pub other_than : List ℕ → List ℕ → Option (List ℕ)
 other_than program name = if bytes_eq name program then None else Some name
 
 -- `run FILE [--width N] [--workers N] [--capacity N] [--arrivals NAME] [--counts]`
-abbrev pub run_of : List ℕ → Option (Option ℕ) → Option (Option ℕ) → Option (Option ℕ) → Option (Option (List ℕ)) → Option Bool → Option Request
+abbrev pub run_of : List ℕ → Option (Option ℕ) → Option (Option ℕ) → Option (Option ℕ) → Option (Option (List ℕ))
+    → Option Bool → Option Request
 run_of program (Some width) (Some workers) (Some capacity) (Some arrivals) (Some counts) =
-    Some (Run program (record { width = width; workers = workers; capacity = capacity; arrivals = arrivals; counts = counts }))
+    Some (Run program (record {
+      width = width;
+      workers = workers;
+      capacity = capacity;
+      arrivals = arrivals;
+      counts = counts;
+    }))
 run_of program _ _ _ _ _ = None
 
 -- `simulate FILE --width N --schedule N [--steps N]`
 abbrev pub simulate_of : List ℕ → Option ℕ → Option ℕ → Option (Option ℕ) → Option Request
-simulate_of program (Some width) (Some schedule) (Some steps) = Some (Simulate program width schedule (unwrap_or steps 10000000))
+simulate_of program (Some width) (Some schedule) (Some steps) =
+    Some (Simulate program width schedule (unwrap_or steps 10000000))
 simulate_of program _ _ _ = None
 
 -- `make NAME --rows N --start N`
@@ -47,7 +55,8 @@ request_with C.Run given program =
     (optional (number_within 18 4096) (codes "capacity") given)
     (optional (other_than program) (codes "arrivals") given)
     (counts given)
-request_with C.Replay given program = option_map (Replay program) (required (other_than program) (codes "arrivals") given)
+request_with C.Replay given program =
+    option_map (Replay program) (required (other_than program) (codes "arrivals") given)
 request_with C.Simulate given program =
     simulate_of program
     (required (number_within 1 16) (codes "width") given)
@@ -61,12 +70,14 @@ request_with C.Make given name =
 -- each argument is the one file name or an option of the command
 abbrev pub request_given : Command → List Argument → Option Request
 request_given command given =
-    if list_all (λ argument. is_of command argument) given then option_and_then (request_with command given) (only_file given) else None
+    if list_all (λ argument. is_of command argument) given
+    then option_and_then (request_with command given) (only_file given) else None
 
 -- the first word is the command, and the others are its arguments
 abbrev pub requested : List (List ℕ) → Option Request
 requested [] = None
-requested (word ∷ words) = option_and_then (λ command. option_and_then (request_given command) (arguments words)) (command_of word)
+requested (word ∷ words) =
+    option_and_then (λ command. option_and_then (request_given command) (arguments words)) (command_of word)
 
 -- the request that words are, if they are one
 abbrev pub request_of : List (String Global) → Option Request

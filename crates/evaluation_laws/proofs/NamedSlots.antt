@@ -12,7 +12,8 @@ use Rattle.spl_tree.specs.declared.body.Statement.TheViews.{out-Statement}
 use Rattle.spl_tree.specs.declared.body.Statement.TheFolds.{fold_out-Statement, map-Statement}
 use Rattle.spl_tree.specs.declared.code.Code.{Code}
 use Rattle.spl_tree.specs.declared.code.Slot.{Slot}
-use Rattle.language_model.specs.Slots.{joined, names_of, place_slots, change_slots, returned_slots, level_slots, statement_slots, row_slots}
+use Rattle.spl_value.specs.Flattened.{flattened}
+use Rattle.language_model.specs.Slots.{names_of, place_slots, change_slots, returned_slots, level_slots, statement_slots, row_slots}
 
 -- ---- lists
 
@@ -37,7 +38,7 @@ module _ {A : Type 0} (P : A → Type 0) where
 slots_at : (x : Statement) (form : Statement-F Statement) → out-Statement x ≡ form → statement_slots x ≡ level_slots (map-Statement Statement (List Slot) statement_slots form)
 slots_at x form p = fold_out-Statement (List Slot) level_slots x ∙ ap (λ y. level_slots (map-Statement Statement (List Slot) statement_slots y)) p
 
-pub joined_is : (row : List Statement) → joined (map statement_slots row) ≡ row_slots row
+pub joined_is : (row : List Statement) → flattened (map statement_slots row) ≡ row_slots row
 joined_is [] = refl
 joined_is (x ∷ row) = ap (λ ys. statement_slots x ++ ys) (joined_is row)
 
@@ -45,10 +46,10 @@ abbrev pub arm_slots : Code Slot × List Statement → List Slot
 arm_slots arm = names_of arm.0 ++ row_slots arm.1
 
 arms_joined : (arms : List (Code Slot × List Statement))
-    → flat_map (λ (arm : Code Slot × List (List Slot)). names_of arm.0 ++ joined arm.1) (map (λ (arm : Code Slot × List Statement). (arm.0, map statement_slots arm.1)) arms) ≡ flat_map arm_slots arms
+    → flat_map (λ (arm : Code Slot × List (List Slot)). names_of arm.0 ++ flattened arm.1) (map (λ (arm : Code Slot × List Statement). (arm.0, map statement_slots arm.1)) arms) ≡ flat_map arm_slots arms
 arms_joined [] = refl
 arms_joined (arm ∷ arms) =
-    ap (λ xs. (names_of arm.0 ++ xs) ++ flat_map (λ (arm : Code Slot × List (List Slot)). names_of arm.0 ++ joined arm.1) (map (λ (arm : Code Slot × List Statement). (arm.0, map statement_slots arm.1)) arms)) (joined_is arm.1)
+    ap (λ xs. (names_of arm.0 ++ xs) ++ flat_map (λ (arm : Code Slot × List (List Slot)). names_of arm.0 ++ flattened arm.1) (map (λ (arm : Code Slot × List Statement). (arm.0, map statement_slots arm.1)) arms)) (joined_is arm.1)
     ∙ ap (λ ys. arm_slots arm ++ ys) (arms_joined arms)
 
 module _ (P : Slot → Type 0) where
@@ -74,7 +75,7 @@ call_slots i codes = slots_at (T.Call i codes) (S.Call i codes) (T.outs-Call i c
 pub if_slots : (arms : List (Code Slot × List Statement)) (other : List Statement) → statement_slots (T.If arms other) ≡ flat_map arm_slots arms ++ row_slots other
 if_slots arms other =
     slots_at (T.If arms other) (S.If arms other) (T.outs-If arms other)
-    ∙ ap (λ xs. xs ++ joined (map statement_slots other)) (arms_joined arms)
+    ∙ ap (λ xs. xs ++ flattened (map statement_slots other)) (arms_joined arms)
     ∙ ap (λ ys. flat_map arm_slots arms ++ ys) (joined_is other)
 
 pub while_slots : (code : Code Slot) (row : List Statement) → statement_slots (T.While code row) ≡ names_of code ++ row_slots row

@@ -64,16 +64,19 @@ variable mutable name t = record { name = name; kind = t; mutable = mutable }
 
 -- without a value a variable holds its type's default
 abbrev pub first_value : Scope → SplType → Option Expr → Found (Code Slot)
-first_value scope t value = option_map_or (λ e. after (typing scope e (Some t)) (λ x. Ok x.code)) value (Ok (C.Literal (default_value t)))
+first_value scope t value =
+    option_map_or (λ e. after (typing scope e (Some t)) (λ x. Ok x.code)) value (Ok (C.Literal (default_value t)))
 
 -- ---- choices and loops
 
 abbrev pub condition_typing : Scope → Expr → Found (Code Slot)
 condition_typing scope e = after (typing scope e (Some S.Bool)) (λ x. Ok x.code)
 
-abbrev pub arms_typing : Setting → Bool → Scope → List (Expr × Placed Stated) → Found (List (Code Slot × List Statement))
+abbrev pub arms_typing : Setting → Bool → Scope → List (Expr × Placed Stated)
+    → Found (List (Code Slot × List Statement))
 arms_typing setting inside scope [] = Ok []
-arms_typing setting inside scope (a ∷ rest) = after (condition_typing scope a.0) (λ code. after (alone setting inside scope a.1) (λ row.
+arms_typing setting inside scope (a ∷ rest) =
+    after (condition_typing scope a.0) (λ code. after (alone setting inside scope a.1) (λ row.
     after (arms_typing setting inside scope rest) (λ arms. Ok ((code, row) ∷ arms))))
 
 -- `for` goes over elements, or over keys, of the variable's type
@@ -86,7 +89,8 @@ level_over t _ = false
 
 -- a function with a result returns one, and nothing else does
 abbrev pub return_typing : ℕ → Purpose → Scope → Option Expr → Found Statement
-return_typing at (OfFunction (Some t)) scope (Some e) = after (typing scope e (Some t)) (λ x. Ok (T.Return (Some x.code)))
+return_typing at (OfFunction (Some t)) scope (Some e) =
+    after (typing scope e (Some t)) (λ x. Ok (T.Return (Some x.code)))
 return_typing at (OfFunction (Some t)) scope None = wrong_call at
 return_typing at purpose scope (Some e) = wrong_call at
 return_typing at purpose scope None = Ok (T.Return None)
@@ -100,13 +104,15 @@ is_window _ = false
 -- `Sys.WindowMarker`, in parentheses or not, or a tuple of the port's attributes
 abbrev pub submitted : Scope → ℕ → List (Named SplType) → Expr → Found Statement
 submitted scope port schema e =
-    if is_window (named_marker e.what) then Ok (T.SubmitWindow port) else after (typing scope e (Some (S.Tuple schema))) (λ x. Ok (T.Submit port x.code))
+    if is_window (named_marker e.what) then Ok (T.SubmitWindow port)
+    else after (typing scope e (Some (S.Tuple schema))) (λ x. Ok (T.Submit port x.code))
 
 -- a handler submits to the output port of the name, whose name is looked at first; a function may not
 abbrev pub submit_typing : ℕ → Setting → Purpose → Scope → Expr → Placed (List ℕ) → Found Statement
 submit_typing at setting (OfFunction result) scope e stream = wrong_call at
 submit_typing at setting (OfHandler schemas) scope e stream =
-    option_map_or (λ port. option_map_or (λ schema. submitted scope port.place schema e) (slice_get schemas port.place) (unknown stream.at stream.what))
+    option_map_or (λ port. option_map_or (λ schema. submitted scope port.place schema e)
+    (slice_get schemas port.place) (unknown stream.at stream.what))
     (first_from (λ name. bytes_eq name stream.what) 0 setting.outputs) (unknown stream.at stream.what)
 
 -- ---- statements
@@ -114,27 +120,37 @@ submit_typing at setting (OfHandler schemas) scope e stream =
 -- a declaration adds its variable to the scope, and every other statement leaves the scope as it is. An `if` may have
 -- no `else`, the variable of a `for` doesn't change, and `break` and `continue` stand inside a loop alone
 abbrev pub level_stated : StmtKind-F Stated → Stated
-level_stated (Z.Block ss) at setting inside scope = staying scope (after (row_typing setting inside scope ss) (λ row. Ok (T.Block row)))
+level_stated (Z.Block ss) at setting inside scope =
+    staying scope (after (row_typing setting inside scope ss) (λ row. Ok (T.Block row)))
 level_stated (Z.Declare d) at setting inside scope = after (type_meant setting.types d.kind) (λ t.
-    after (first_value scope t d.value) (λ code. Ok (T.Declare code, with_variable scope (variable d.mutable d.name.what t))))
+    after (first_value scope t d.value) (λ code. Ok (
+      T.Declare code,
+      with_variable scope
+          (variable d.mutable d.name.what t),
+    )))
 level_stated (Z.Assign place op e) at setting inside scope =
     staying scope (option_map_or (λ o. compound_typing scope o place e) op (assignment_typing scope place e))
 level_stated (Z.Call e) at setting inside scope = staying scope (call_typing scope e)
-level_stated (Z.If arms other) at setting inside scope = staying scope (after (arms_typing setting inside scope arms) (λ xs.
+level_stated (Z.If arms other) at setting inside scope =
+    staying scope (after (arms_typing setting inside scope arms) (λ xs.
     after (option_map_or (alone setting inside scope) other (Ok [])) (λ row. Ok (T.If xs row))))
 level_stated (Z.While c s) at setting inside scope =
-    staying scope (after (condition_typing scope c) (λ code. after (alone setting true scope s) (λ row. Ok (T.While code row))))
+    staying scope (after (condition_typing scope c) (λ code.
+    after (alone setting true scope s) (λ row. Ok (T.While code row))))
 level_stated (Z.For a e s) at setting inside scope = staying scope (after (type_meant setting.types a.kind) (λ t.
-    after (after (typing scope e None) (λ x. if level_over t (out-SplType x.kind) then Ok x.code else mismatch e.at)) (λ code.
+    after (after (typing scope e None) (λ x. if level_over t (out-SplType x.kind) then Ok x.code else mismatch e.at))
+    (λ code.
     after (alone setting true (with_variable scope (variable false a.name.what t)) s) (λ row. Ok (T.For code row)))))
 level_stated Z.Break at setting inside scope = staying scope (if inside then Ok T.Break else wrong_call at)
 level_stated Z.Continue at setting inside scope = staying scope (if inside then Ok T.Continue else wrong_call at)
 level_stated (Z.Return e) at setting inside scope = staying scope (return_typing at setting.purpose scope e)
-level_stated (Z.Submit e stream) at setting inside scope = staying scope (submit_typing at setting setting.purpose scope e stream)
+level_stated (Z.Submit e stream) at setting inside scope =
+    staying scope (submit_typing at setting setting.purpose scope e stream)
 
 -- the code of the statements of a body, outside of any loop
 abbrev pub body_typing : Setting → Scope → List Stmt → Found (List Statement)
-body_typing setting scope ss = row_typing setting false scope (map (λ s. record { at = s.at; what = fold-StmtKind Stated level_stated s.what }) ss)
+body_typing setting scope ss =
+    row_typing setting false scope (map (λ s. record { at = s.at; what = fold-StmtKind Stated level_stated s.what }) ss)
 
 -- ---- bodies that end with a result
 

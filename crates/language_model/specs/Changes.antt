@@ -38,11 +38,13 @@ found_index _ = 0
 -- is nothing to be changed; what an assignment makes of nothing is added there
 abbrev pub level_changed : Selector Value → (Option Value → CallOutcome) → Value-F Value → CallOutcome
 level_changed (K.Member i) change (O.Tuple vs) =
-    passed_on (option_map_or Gives (slice_get vs i) Unfit) (λ old. passed_on (change (Some old)) (λ new. Gives (V.Tuple (slice_set vs i new))))
+    passed_on (option_map_or Gives (slice_get vs i) Unfit) (λ old.
+    passed_on (change (Some old)) (λ new. Gives (V.Tuple (slice_set vs i new))))
 level_changed (K.Element n) change (O.List vs) =
     passed_on (level_element (O.List vs) (out-Value n)) (λ old.
     passed_on (change (Some old)) (λ new. Gives (V.List (slice_set vs (found_index (out-Value n)) new))))
-level_changed (K.AtKey k) change (O.Map ps) = passed_on (change (pairs_get ps k)) (λ new. Gives (V.Map (pairs_put ps k new)))
+level_changed (K.AtKey k) change (O.Map ps) =
+    passed_on (change (pairs_get ps k)) (λ new. Gives (V.Map (pairs_put ps k new)))
 level_changed _ change _ = Unfit
 
 -- what becomes of a value where that which the steps take of it in turn is changed so. Only the last step may add a key

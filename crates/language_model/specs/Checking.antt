@@ -60,7 +60,8 @@ fit_ports kind ins outs = is_within (rules_of kind).inputs ins && is_within (rul
 
 -- outputs are of the type of an input
 abbrev pub are_passed : Attributes → List OutputStream → List Attributes → Passes
-are_passed input (o ∷ os) (schema ∷ schemas) = if same_attributes schema input then are_passed input os schemas else mismatch o.shape.at
+are_passed input (o ∷ os) (schema ∷ schemas) =
+    if same_attributes schema input then are_passed input os schemas else mismatch o.shape.at
 are_passed input os schemas = passed
 
 -- a port's name in its body: its alias, or else that of its first stream
@@ -70,23 +71,30 @@ port_name q = option_map_or (λ n. n.what) q.alias (of_first [] (λ n others. n.
 -- the attributes of an operator's inputs and outputs: one that passes tuples on has outputs of the type of its input
 abbrev pub port_types : List Definition → Graph → Body → Op → Invocation → Found PortTypes
 port_types unit g b op i =
-    after (outputs_attributes unit g b i.outputs op.outs) (λ outs. after (ports_attributes unit g b i.inputs op.ins) (λ ins.
-    after (of_first passed (λ input others. if (rules_of op.kind).passes_on then are_passed input i.outputs outs else passed) ins) (λ u.
+    after (outputs_attributes unit g b i.outputs op.outs) (λ outs.
+    after (ports_attributes unit g b i.inputs op.ins) (λ ins.
+    after (of_first passed (λ input others. if (rules_of op.kind).passes_on then are_passed input i.outputs outs
+    else passed) ins) (λ u.
     Ok (record { ins = ins; outs = outs }))))
 
 -- ---- config
 
 abbrev pub config_checked : List Parameter → Passes
 config_checked [] = passed
-config_checked (p ∷ ps) = if bytes_eq p.name.what (codes "placement") then config_checked ps else refused E.LeftOut p.name.at (Some p.name.what)
+config_checked (p ∷ ps) =
+    if bytes_eq p.name.what (codes "placement") then config_checked ps
+    else refused E.LeftOut p.name.at (Some p.name.what)
 
 -- ---- windows
 
 -- that of an Aggregate may be partitioned, and that of a Join isn't
 abbrev pub policy_of : WindowForm → Numbers → Port → PortWindow → Found Policy
 policy_of W.Aggregate numbers = λ port w. let parts = partitioned_or_not w.parts in
-    after (aggregate_rule numbers port.schema w.port.at parts.others) (λ rule. Ok (record { partitioned = parts.partitioned; rule = rule }))
-policy_of W.Join numbers = λ port w. after (join_rule numbers port.schema w.port.at w.parts) (λ rule. Ok (record { partitioned = false; rule = rule }))
+    after (aggregate_rule numbers port.schema w.port.at parts.others) (λ rule.
+    Ok (record { partitioned = parts.partitioned; rule = rule }))
+policy_of W.Join numbers =
+    λ port w. after (join_rule numbers port.schema w.port.at w.parts) (λ rule.
+    Ok (record { partitioned = false; rule = rule }))
 
 -- the windows of all ports, in their order
 abbrev pub each_window : ℕ → List (ℕ × Policy) → ℕ → List Port → Found (List Policy)
@@ -95,7 +103,8 @@ each_window at windows port (p ∷ ps) = after (window_at at port windows) (λ p
     after (each_window at windows (suc port) ps) (λ rest. Ok (policy ∷ rest)))
 
 -- each port has a window of the form. Where there is none there is no clause
-abbrev pub windows_of_form : Option WindowForm → Numbers → ℕ → List Port → Option (Placed (List PortWindow)) → Found (List Policy)
+abbrev pub windows_of_form : Option WindowForm → Numbers → ℕ → List Port → Option (Placed (List PortWindow))
+    → Found (List Policy)
 windows_of_form None numbers at ports None = Ok []
 windows_of_form None numbers at ports (Some w) = refused E.ExtraParameter w.at (Some (codes "window"))
 windows_of_form (Some form) numbers at ports None = each_window at [] 0 ports
@@ -107,7 +116,8 @@ windows_of_form (Some form) numbers at ports (Some w) =
 -- those that are given, of which none is missing that is needed
 abbrev pub parameters_checked : Site → OpKind → Bool → ℕ → List Parameter → Found (List Given)
 parameters_checked site kind partitioned at ps = after (parameters_typing site kind partitioned [] ps) (λ given.
-    option_map_or (λ name. refused E.MissingParameter at (Some name)) (missing given (needed kind partitioned)) (Ok given))
+    option_map_or (λ name. refused E.MissingParameter at (Some name))
+    (missing given (needed kind partitioned)) (Ok given))
 
 -- ---- parts
 
@@ -147,7 +157,9 @@ there at o = option_map_or (λ x. Ok x) o (mismatch at)
 -- ---- logic
 
 abbrev pub logic_checked : OpKind → Option (Placed Logic) → Passes
-logic_checked kind logic = option_map_or (λ l. if (rules_of kind).logic then passed else refused E.LeftOut l.at (Some (codes "logic"))) logic passed
+logic_checked kind logic =
+    option_map_or (λ l. if (rules_of kind).logic then passed
+    else refused E.LeftOut l.at (Some (codes "logic"))) logic passed
 
 -- ---- rows of files
 
@@ -174,33 +186,45 @@ tuple_of x rows = tuple_typing x.around.scope x.at (first_list x.around.schemas)
 abbrev pub part_of : Checks → Clauses → List OutputAssignments → OpKind → Found CheckedClauses
 part_of x clauses rows O.FileSource =
     after (logic_checked O.FileSource clauses.logic) (λ u. after (rows_checked x x.around.schemas) (λ v.
-    Ok (A.FileSource (as_file (value_given x.given (codes "file"))) (as_strict (value_given x.given (codes "parsing"))))))
+    Ok (A.FileSource (as_file (value_given x.given (codes "file")))
+    (as_strict (value_given x.given (codes "parsing"))))))
 part_of x clauses rows O.FileSink =
-    after (logic_checked O.FileSink clauses.logic) (λ u. after (rows_checked x (map (λ p. p.schema) x.around.scope.ports)) (λ v.
+    after (logic_checked O.FileSink clauses.logic) (λ u.
+    after (rows_checked x (map (λ p. p.schema) x.around.scope.ports)) (λ v.
     Ok (A.FileSink (as_file (value_given x.given (codes "file"))))))
 part_of x clauses rows O.Filter = plain O.Filter clauses (A.Filter (as_code (value_given x.given (codes "filter"))))
 part_of x clauses rows O.Functor =
-    after (tuple_of x rows) (λ output. plain O.Functor clauses (A.Functor (as_code (value_given x.given (codes "filter"))) output))
+    after (tuple_of x rows) (λ output. plain O.Functor clauses
+    (A.Functor (as_code (value_given x.given (codes "filter"))) output))
 part_of x clauses rows O.Punctor =
     after (there x.at (as_code (value_given x.given (codes "punctuation")))) (λ condition.
-    after (there x.at (as_position (value_given x.given (codes "position")))) (λ position. plain O.Punctor clauses (A.Punctor condition position)))
-part_of x clauses rows O.Split = after (there x.at (as_code (value_given x.given (codes "index")))) (λ index. plain O.Split clauses (A.Split index))
+    after (there x.at (as_position (value_given x.given (codes "position")))) (λ position.
+    plain O.Punctor clauses (A.Punctor condition position)))
+part_of x clauses rows O.Split =
+    after (there x.at (as_code (value_given x.given (codes "index")))) (λ index. plain O.Split clauses (A.Split index))
 part_of x clauses rows O.Union =
-    after (inputs_typing x.at (first_list x.around.schemas) x.around.scope.ports) (λ places. plain O.Union clauses (A.Union places))
+    after (inputs_typing x.at (first_list x.around.schemas) x.around.scope.ports) (λ places.
+    plain O.Union clauses (A.Union places))
 part_of x clauses rows O.Custom = after (logic_typing x.around clauses.logic) (λ handlers. Ok (A.Custom handlers))
 part_of x clauses rows O.Aggregate = of_first (bad_window x.at) (λ window others.
-    after (groups_typing x.around.scope x.at (first_list x.around.schemas) (first_list x.around.outputs) rows) (λ output.
+    after (groups_typing x.around.scope x.at (first_list x.around.schemas) (first_list x.around.outputs) rows)
+    (λ output.
     plain O.Aggregate clauses
-    (A.Aggregate window (as_places (value_given x.given (codes "partitionBy"))) (as_places (value_given x.given (codes "groupBy"))) output))) x.windows
+    (A.Aggregate window (as_places (value_given x.given (codes "partitionBy")))
+    (as_places (value_given x.given (codes "groupBy"))) output))) x.windows
 part_of x clauses rows O.Join = of_first (bad_window x.at) (λ left more. of_first (bad_window x.at) (λ right others.
-    after (tuple_of x rows) (λ output. plain O.Join clauses (A.Join left right (as_code (value_given x.given (codes "match"))) output))) more) x.windows
+    after (tuple_of x rows) (λ output. plain O.Join clauses
+    (A.Join left right (as_code (value_given x.given (codes "match"))) output))) more) x.windows
 
 -- the clauses of an operator whose types are these, with rows of outputs only where its kind has them
 abbrev pub clauses_checked : Op → Site → Surroundings → Clauses → Found CheckedClauses
 clauses_checked op site around clauses = after (config_checked clauses.config) (λ u.
-    after (windows_of_form (rules_of op.kind).window (number_literal site.scope site.follow) op.at site.scope.ports clauses.window) (λ windows.
-    after (parameters_checked site op.kind (of_first false (λ p others. p.partitioned) windows) op.at clauses.parameters) (λ given.
-    after (option_map_or (λ o. if is_some (rules_of op.kind).output then Ok o.what else refused E.ExtraParameter o.at (Some (codes "output")))
+    after (windows_of_form (rules_of op.kind).window
+    (number_literal site.scope site.follow) op.at site.scope.ports clauses.window) (λ windows.
+    after (parameters_checked site op.kind (of_first false
+    (λ p others. p.partitioned) windows) op.at clauses.parameters) (λ given.
+    after (option_map_or (λ o. if is_some (rules_of op.kind).output then Ok o.what
+    else refused E.ExtraParameter o.at (Some (codes "output")))
     clauses.output (Ok [])) (λ rows.
     part_of (record { at = op.at; around = around; windows = windows; given = given }) clauses rows op.kind))))
 
@@ -208,19 +232,26 @@ clauses_checked op site around clauses = after (config_checked clauses.config) (
 -- body, and its ports
 abbrev pub invocation_checked : List Definition → Graph → Tables → Op → Body → Invocation → Found CheckedClauses
 invocation_checked unit g tables op b i =
-    after (if fit_ports op.kind (length i.inputs) (length i.outputs) then passed else refused E.PortCount op.at None) (λ u.
+    after (if fit_ports op.kind (length i.inputs) (length i.outputs) then passed
+    else refused E.PortCount op.at None) (λ u.
     after (port_types unit g b op i) (λ found.
     let scope = record (unit_scope unit) {
       ports = map (λ x. record { name = port_name x.0; schema = x.1 }) (zip i.inputs found.ins);
       dollars = table_at tables b.number;
     } in
     clauses_checked op (record { scope = scope; follow = expression_meant unit g.expansions b.number })
-    (record { types = composite_types unit b.composite; scope = scope; outputs = map (λ o. o.name.what) i.outputs; schemas = found.outs }) i.clauses))
+    (record {
+      types = composite_types unit b.composite;
+      scope = scope;
+      outputs = map (λ o. o.name.what) i.outputs;
+      schemas = found.outs;
+    }) i.clauses))
 
 -- each operator of the graph is that of an invocation in a body
 abbrev pub operator_checked : List Definition → Graph → Tables → Op → Found CheckedClauses
 operator_checked unit g tables op =
-    option_map_or (λ b. option_map_or (invocation_checked unit g tables op b) (slice_get b.composite.graph op.site.invocation) (mismatch op.at))
+    option_map_or (λ b. option_map_or (invocation_checked unit g tables op b)
+    (slice_get b.composite.graph op.site.invocation) (mismatch op.at))
     (body_at unit g op.site.expansion) (mismatch op.at)
 
 -- ---- the whole

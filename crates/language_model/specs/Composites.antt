@@ -42,5 +42,6 @@ if_main c = if has_no_ports c.what && list_all (λ p. is_some p.default) c.what.
 abbrev pub main_of : List Definition → Option ℕ
 main_of unit =
     let portless : List Composite = filter_map (λ c. if has_no_ports c then Some c else None) (composites unit) in
-    let sole : Option ℕ = option_and_then (λ c. if is_empty (drop 1 portless) then if_main c else None) (first_from has_no_ports 0 (composites unit)) in
+    let sole : Option ℕ = option_and_then (λ c. if is_empty (drop 1 portless) then if_main c else None)
+    (first_from has_no_ports 0 (composites unit)) in
     option_map_or if_main (composite_named unit (codes "Main")) sole

@@ -90,7 +90,8 @@ graph_names c =
 -- the repeated ones of a composite's three sets
 abbrev pub repeated_in_definition : Definition → List Name
 repeated_in_definition (D.Composite c) =
-    map declared_name (repeated (λ before d. list_any (λ e. is_same (declared_name e) (declared_name d) && not (may_share e d)) before) (graph_names c))
+    map declared_name (repeated (λ before d. list_any
+    (λ e. is_same (declared_name e) (declared_name d) && not (may_share e d)) before) (graph_names c))
     ++ repeated_names (map (λ t. t.name) c.types)
     ++ repeated_names (map (λ p. p.name) c.parameters)
 repeated_in_definition d = []
@@ -133,7 +134,8 @@ block_of ss = filter_map (λ s. s.own) ss ∷ flat_map (λ s. s.sets) ss
 abbrev pub level_statement : StmtKind-F Scoped → Scoped
 level_statement (Z.Block ss) = scoped (block_of (map (λ s. s.what) ss))
 level_statement (Z.Declare d) = record { own = Some d.name; sets = type_sets d.kind }
-level_statement (Z.If arms other) = scoped (flat_map (λ a. a.1.what.sets) arms ++ option_map_or (λ s. s.what.sets) other [])
+level_statement (Z.If arms other) =
+    scoped (flat_map (λ a. a.1.what.sets) arms ++ option_map_or (λ s. s.what.sets) other [])
 level_statement (Z.While c s) = scoped s.what.sets
 level_statement (Z.For a e s) = scoped (type_sets a.kind ++ s.what.sets)
 level_statement _ = scoped []
@@ -142,10 +144,13 @@ abbrev pub block_sets : List Stmt → Sets
 block_sets ss = block_of (map (λ s. fold-StmtKind Scoped level_statement s.what) ss)
 
 abbrev pub logic_sets : Logic → Sets
-logic_sets l = (map (λ d. d.name) l.state ∷ flat_map (λ d. type_sets d.kind) l.state) ++ flat_map (λ h. block_sets h.what.body) l.handlers
+logic_sets l =
+    (map (λ d. d.name) l.state ∷ flat_map (λ d. type_sets d.kind) l.state)
+    ++ flat_map (λ h. block_sets h.what.body) l.handlers
 
 abbrev pub invocation_sets : Invocation → Sets
-invocation_sets i = flat_map (λ o. kind_sets o.shape.what) i.outputs ++ option_map_or (λ l. logic_sets l.what) i.clauses.logic []
+invocation_sets i =
+    flat_map (λ o. kind_sets o.shape.what) i.outputs ++ option_map_or (λ l. logic_sets l.what) i.clauses.logic []
 
 abbrev pub definition_sets : Definition → Sets
 definition_sets (D.Type t) = kind_sets t.shape.what
@@ -171,6 +176,7 @@ first_of (x ∷ xs) = Some x
 -- types and statements
 abbrev pub declared_twice : List Definition → Option Name
 declared_twice unit =
-    first_of (map definition_name (repeated (λ before d. is_built_in d || list_any (λ e. is_same (definition_name e) (definition_name d)) before) unit)
+    first_of (map definition_name (repeated (λ before d. is_built_in d
+    || list_any (λ e. is_same (definition_name e) (definition_name d)) before) unit)
     ++ flat_map repeated_in_definition unit
     ++ option_to_list (first_in_text (flat_map repeated_names (flat_map definition_sets unit))))

@@ -39,11 +39,13 @@ composite_of unit e = slice_get (composites unit) e.composite
 -- the invocation at a site
 abbrev pub invocation_at : List Definition → List Expansion → Site → Option Invocation
 invocation_at unit expansions s =
-    option_and_then (λ c. slice_get c.graph s.invocation) (option_and_then (composite_of unit) (slice_get expansions s.expansion))
+    option_and_then (λ c. slice_get c.graph s.invocation)
+    (option_and_then (composite_of unit) (slice_get expansions s.expansion))
 
 -- the arguments that an expansion has; the main one has none
 abbrev pub arguments_of : List Definition → List Expansion → Expansion → List Parameter
-arguments_of unit expansions e = option_map_or (λ i. i.clauses.parameters) (option_and_then (invocation_at unit expansions) e.site) []
+arguments_of unit expansions e =
+    option_map_or (λ i. i.clauses.parameters) (option_and_then (invocation_at unit expansions) e.site) []
 
 abbrev pub heads_of : List Definition → Expansion → List CompositeParameter
 heads_of unit e = option_map_or (λ c. c.parameters) (composite_of unit e) []
@@ -79,8 +81,10 @@ here_or outside Nowhere = None
 abbrev pub expression_within : ℕ → List Definition → List Expansion → ℕ → Expr → Option Expr
 expression_within zero unit expansions number e = None
 expression_within (suc count) unit expansions number e =
-    option_and_then (λ x. here_or (λ argument. option_and_then (λ s. expression_within count unit expansions s.expansion argument) x.site)
-    (target (parameter_target (length (heads_of unit x)) (heads_of unit x) (arguments_of unit expansions x)) e)) (slice_get expansions number)
+    option_and_then (λ x. here_or (λ argument. option_and_then
+    (λ s. expression_within count unit expansions s.expansion argument) x.site)
+    (target (parameter_target (length (heads_of unit x)) (heads_of unit x) (arguments_of unit expansions x)) e))
+    (slice_get expansions number)
 
 abbrev pub expression_meant : List Definition → List Expansion → ℕ → Expr → Option Expr
 expression_meant unit expansions number e = expression_within (length expansions) unit expansions number e

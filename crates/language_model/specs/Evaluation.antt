@@ -46,17 +46,20 @@ Calls = ℕ → List Value → ℕ → Outcome Value
 -- their values, or what else each of a row gives in one world or state, from left to right
 abbrev pub all_of : {W A : Type 0} → List (W → ℕ → Outcome A) → W → ℕ → Outcome (List A)
 all_of [] w turns = Done [] turns
-all_of (m ∷ ms) w turns = followed (m w turns) (λ v turns. followed (all_of ms w turns) (λ vs turns. Done (v ∷ vs) turns))
+all_of (m ∷ ms) w turns =
+    followed (m w turns) (λ v turns. followed (all_of ms w turns) (λ vs turns. Done (v ∷ vs) turns))
 
 abbrev pub pairs_of : {N : Type 0} → List (Meaning N × Meaning N) → World N → ℕ → Outcome (List (Value × Value))
 pairs_of [] w turns = Done [] turns
 pairs_of (m ∷ ms) w turns =
-    followed (m.0 w turns) (λ k turns. followed (m.1 w turns) (λ v turns. followed (pairs_of ms w turns) (λ ps turns. Done ((k, v) ∷ ps) turns)))
+    followed (m.0 w turns) (λ k turns. followed (m.1 w turns) (λ v turns.
+    followed (pairs_of ms w turns) (λ ps turns. Done ((k, v) ∷ ps) turns)))
 
 -- values with their places in a tuple
 abbrev pub fields_of : {N : Type 0} → List (ℕ × Meaning N) → World N → ℕ → Outcome (List (ℕ × Value))
 fields_of [] w turns = Done [] turns
-fields_of (m ∷ ms) w turns = followed (m.1 w turns) (λ v turns. followed (fields_of ms w turns) (λ fs turns. Done ((m.0, v) ∷ fs) turns))
+fields_of (m ∷ ms) w turns =
+    followed (m.1 w turns) (λ v turns. followed (fields_of ms w turns) (λ fs turns. Done ((m.0, v) ∷ fs) turns))
 
 -- the value at a place
 abbrev pub field_at : ℕ → List (ℕ × Value) → Option Value
@@ -75,7 +78,8 @@ tuple_of fs = tuple_from 0 (length fs) fs
 
 abbrev pub taken : {N : Type 0} → Selector (Meaning N) → Value → World N → ℕ → Outcome Value
 taken (K.Member i) v w turns = settled (level_member i (out-Value v)) turns
-taken (K.Element m) v w turns = followed (m w turns) (λ n turns. settled (level_element (out-Value v) (out-Value n)) turns)
+taken (K.Element m) v w turns =
+    followed (m w turns) (λ n turns. settled (level_element (out-Value v) (out-Value n)) turns)
 taken (K.AtKey m) v w turns = followed (m w turns) (λ k turns. settled (level_at_key (out-Value v) k) turns)
 
 -- in turn
@@ -88,7 +92,8 @@ taken_all (t ∷ ts) v w turns = followed (taken t v w turns) (λ u turns. taken
 -- the outermost first
 abbrev pub unaries_of : List UnaryCode → Value → ℕ → Outcome Value
 unaries_of [] v turns = Done v turns
-unaries_of (op ∷ ops) v turns = followed (unaries_of ops v turns) (λ u turns. settled (level_unary op (out-Value u)) turns)
+unaries_of (op ∷ ops) v turns =
+    followed (unaries_of ops v turns) (λ u turns. settled (level_unary op (out-Value u)) turns)
 
 -- whether an expression is true
 abbrev pub truth : {N : Type 0} → Meaning N → World N → ℕ → Outcome Bool
@@ -97,7 +102,8 @@ truth m w turns = followed (m w turns) (λ v turns. need (level_truth (out-Value
 abbrev pub binary : {N : Type 0} → BinaryCode → Meaning N → Meaning N → Meaning N
 binary D.And m n w turns = followed (truth m w turns) (λ b turns. if b then n w turns else Done (V.Bool false) turns)
 binary D.Or m n w turns = followed (truth m w turns) (λ b turns. if b then Done (V.Bool true) turns else n w turns)
-binary op m n w turns = followed (m w turns) (λ u turns. followed (n w turns) (λ v turns. settled (binary_of op u v) turns))
+binary op m n w turns =
+    followed (m w turns) (λ u turns. followed (n w turns) (λ v turns. settled (binary_of op u v) turns))
 
 abbrev pub same_marker : Marker → Marker → Bool
 same_marker M.Window M.Window = true
@@ -111,14 +117,19 @@ abbrev pub level_value : {N : Type 0} → Calls → Code-F N (Meaning N) → Mea
 level_value calls (C.Literal v) w turns = Done v turns
 level_value calls (C.Name n) w turns = need (w.value_of n) (λ v. Done v turns)
 level_value calls (C.List ms) w turns = followed (all_of ms w turns) (λ vs turns. Done (V.List vs) turns)
-level_value calls (C.Map ms) w turns = followed (pairs_of ms w turns) (λ qs turns. Done (V.Map (fold (λ ps p. pairs_put ps p.0 p.1) [] qs)) turns)
-level_value calls (C.Tuple ms) w turns = followed (fields_of ms w turns) (λ fs turns. need (tuple_of fs) (λ vs. Done (V.Tuple vs) turns))
+level_value calls (C.Map ms) w turns =
+    followed (pairs_of ms w turns) (λ qs turns. Done (V.Map (fold (λ ps p. pairs_put ps p.0 p.1) [] qs)) turns)
+level_value calls (C.Tuple ms) w turns =
+    followed (fields_of ms w turns) (λ fs turns. need (tuple_of fs) (λ vs. Done (V.Tuple vs) turns))
 level_value calls (C.Select m ts) w turns = followed (m w turns) (λ v turns. taken_all ts v w turns)
 level_value calls (C.Unary ops m) w turns = followed (m w turns) (λ v turns. unaries_of ops v turns)
 level_value calls (C.Binary op m n) w turns = binary op m n w turns
-level_value calls (C.Conditional c m n) w turns = followed (truth c w turns) (λ b turns. if b then m w turns else n w turns)
-level_value calls (C.BuiltIn call ms) w turns = followed (all_of ms w turns) (λ vs turns. settled (level_call call (map out-Value vs)) turns)
-level_value calls (C.Call i ms) w turns = followed (all_of ms w turns) (λ vs turns. enter turns (λ turns. calls i vs turns))
+level_value calls (C.Conditional c m n) w turns =
+    followed (truth c w turns) (λ b turns. if b then m w turns else n w turns)
+level_value calls (C.BuiltIn call ms) w turns =
+    followed (all_of ms w turns) (λ vs turns. settled (level_call call (map out-Value vs)) turns)
+level_value calls (C.Call i ms) w turns =
+    followed (all_of ms w turns) (λ vs turns. enter turns (λ turns. calls i vs turns))
 level_value calls (C.IsMarker m) w turns = need w.marker (λ n. Done (V.Bool (same_marker m n)) turns)
 level_value calls (C.IsNotMarker m) w turns = need w.marker (λ n. Done (V.Bool (not (same_marker m n))) turns)
 

@@ -60,11 +60,14 @@ names_of_port k i = option_map_or (λ q. q.streams) (slice_get i.inputs k) []
 
 -- those of the invocation at a site
 abbrev pub port_names : List Inlined → Site → ℕ → List (Placed (List ℕ))
-port_names es s k = option_map_or (λ e. option_map_or (names_of_port k) (slice_get e.composite.what.graph s.invocation) []) (slice_get es s.expansion) []
+port_names es s k =
+    option_map_or (λ e. option_map_or (names_of_port k) (slice_get e.composite.what.graph s.invocation) [])
+    (slice_get es s.expansion) []
 
 -- what an input of a head takes: what the names of that port do where the composite is invoked
 abbrev pub input_sources : (ℕ → List ℕ → List Source) → List Inlined → Option Site → ℕ → List Source
-input_sources outside es site k = option_map_or (λ s. flat_map (λ n. outside s.expansion n.what) (port_names es s k)) site []
+input_sources outside es site k =
+    option_map_or (λ s. flat_map (λ n. outside s.expansion n.what) (port_names es s k)) site []
 
 -- what a name takes: the stream that the graph makes, or else what the input of that name does. Inputs are followed
 -- outwards at most this number of times
@@ -72,7 +75,8 @@ abbrev pub taken_in : ℕ → List Inlined → ℕ → List ℕ → List Source
 taken_in zero es number name = []
 taken_in (suc count) es number name =
     option_map_or (λ e. option_map_or (λ k. source number k ∷ []) (place_of name (stream_names e.composite.what))
-    (option_map_or (input_sources (taken_in count es) es e.site) (place_of name (input_names e.composite.what)) [])) (slice_get es number) []
+    (option_map_or (input_sources (taken_in count es) es e.site) (place_of name (input_names e.composite.what)) []))
+    (slice_get es number) []
 
 -- what a name takes in the expansion at a number
 abbrev pub sources_of : List Inlined → ℕ → List ℕ → List Source
@@ -106,7 +110,12 @@ abbrev pub inlined : Opened → ℕ → At Composite → Inlined
 inlined p number c = record { composite = c; site = Some (record { expansion = p.number; invocation = number }) }
 
 abbrev pub opened_in : Opened → ℕ → Invocation → At Composite → Made → Opened
-opened_in p number i c made = record { number = length made.expansions; prefix = p.prefix ++ invocation_name i ++ codes "."; body = inlined p number c }
+opened_in p number i c made =
+    record {
+      number = length made.expansions;
+      prefix = p.prefix ++ invocation_name i ++ codes ".";
+      body = inlined p number c;
+    }
 
 -- ---- the work
 
@@ -117,10 +126,14 @@ Expands = Opened → Made → Expanded Made
 -- an operator is put after the others, and an expansion that makes no operator isn't kept
 abbrev pub expanded_target : Expands → Opened → ℕ → Invocation → Target → Made → Expanded Made
 expanded_target expands p number i (Operator kind) made =
-    if_within i.at (record { ops = made.ops ++ operation made.expansions p number i kind ∷ []; expansions = made.expansions })
+    if_within i.at (record {
+      ops = made.ops ++ operation made.expansions p number i kind ∷ [];
+      expansions = made.expansions;
+    })
 expanded_target expands p number i (Body c) made =
     if fits_head c.what i
-    then after (expands (opened_in p number i c made) (record { ops = made.ops; expansions = made.expansions ++ inlined p number c ∷ [] }))
+    then after (expands (opened_in p number i c made)
+    (record { ops = made.ops; expansions = made.expansions ++ inlined p number c ∷ [] }))
     (λ m. Ok (if length made.ops == length m.ops then made else m))
     else Err (named_refusal E.Ports (placed i.at i.operator.what))
 expanded_target expands p number i Nothing made = Err (named_refusal E.Unknown i.operator)

@@ -23,9 +23,15 @@ use Rattle.language_model.specs.Taking.{taken, first_untaken}
 abbrev pub ordered : Made → Expanded Graph
 ordered made =
     let topo = taken (streams_from 0 made.ops) (ops_from made 0 made.ops) in
-    option_map_or (λ n. Err (named_refusal E.Loop (option_map_or (λ o. placed o.at o.label) (slice_get made.ops n) (placed 0 []))))
+    option_map_or (λ n. Err (named_refusal E.Loop
+    (option_map_or (λ o. placed o.at o.label) (slice_get made.ops n) (placed 0 []))))
     (first_untaken topo 0 (length made.ops))
-    (Ok (record { ops = ops_from made 0 made.ops; streams = streams_from 0 made.ops; expansions = expansions_from made 0 made.expansions; topo = topo }))
+    (Ok (record {
+      ops = ops_from made 0 made.ops;
+      streams = streams_from 0 made.ops;
+      expansions = expansions_from made 0 made.expansions;
+      topo = topo;
+    }))
 
 -- ---- files
 
@@ -51,4 +57,5 @@ pub data IsFlat (unit : List Definition) (names : List (List ℕ)) : Expanded Gr
   no_main : declared_twice unit ≡ None → main_of unit ≡ None → IsFlat unit names (Err (unnamed_refusal E.NoMain 0))
   recursive : (main : At Composite) (n : Placed (List ℕ)) → declared_twice unit ≡ None → IsMain unit main
       → IsRecursive unit n → IsFlat unit names (Err (named_refusal E.Recursive n))
-  expands : (main : At Composite) → declared_twice unit ≡ None → IsMain unit main → IsNotRecursive unit → IsFlat unit names (flat_from unit names main)
+  expands : (main : At Composite) → declared_twice unit ≡ None → IsMain unit main → IsNotRecursive unit
+      → IsFlat unit names (flat_from unit names main)

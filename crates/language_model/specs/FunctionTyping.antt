@@ -28,8 +28,10 @@ pub record FunctionTypes : Type 0 where
   pub parameters : List (Named SplType)
 
 abbrev pub function_types : Types → FunctionDefinition → Found FunctionTypes
-function_types types f = after (option_map_or (λ t. after (type_meant types t) (λ result. Ok (Some result))) f.result (Ok None)) (λ result.
-    after (attributes_type types (written_attributes f.parameters)) (λ parameters. Ok (record { result = result; parameters = parameters })))
+function_types types f =
+    after (option_map_or (λ t. after (type_meant types t) (λ result. Ok (Some result))) f.result (Ok None)) (λ result.
+    after (attributes_type types (written_attributes f.parameters)) (λ parameters.
+    Ok (record { result = result; parameters = parameters })))
 
 abbrev pub signature : List ℕ → FunctionTypes → Signature
 signature name t = record { name = name; parameters = map (λ a. a.kind) t.parameters; result = t.result }
@@ -38,7 +40,9 @@ signature name t = record { name = name; parameters = map (λ a. a.kind) t.param
 -- named
 abbrev pub unit_scope : List Definition → Scope
 unit_scope unit = record no_names {
-  functions = filter_map (λ f. option_map (signature f.name.what) (result_ok (function_types (unit_types unit) f))) (functions unit);
+  functions =
+      filter_map (λ f. option_map (signature f.name.what) (result_ok (function_types (unit_types unit) f)))
+      (functions unit);
   unresolved = filter_map (λ f. option_map (λ refusal. record { name = f.name.what; refusal = refusal })
       (result_err (function_types (unit_types unit) f))) (functions unit);
 }
@@ -54,7 +58,8 @@ if_returning f t row = if is_some t.result && not (returns f.body) then refused 
 abbrev pub function_typing : List Definition → FunctionDefinition → Found Function
 function_typing unit f = after (function_types (unit_types unit) f) (λ t.
     after (body_typing (record { types = unit_types unit; purpose = OfFunction t.result; outputs = [] })
-    (record (unit_scope unit) { vars = map (λ a. variable false a.name a.kind) t.parameters }) f.body) (if_returning f t))
+    (record (unit_scope unit) { vars = map (λ a. variable false a.name a.kind) t.parameters }) f.body)
+    (if_returning f t))
 
 abbrev pub functions_typing : List Definition → Found (List Function)
 functions_typing unit = each (function_typing unit) (λ x. x) (functions unit)

@@ -19,7 +19,8 @@ function_env values = record { inputs = []; vars = values; punct = None }
 abbrev pub bodies_of : List Function → ℕ → Bodies
 bodies_of functions zero i values turns = Faulted F.Turns
 bodies_of functions (suc depth) i values turns = need (slice_get functions i) (λ f.
-    followed (body_leaves (bodies_of functions depth) f.body (function_env values) turns) (λ left turns. Done left.returned turns))
+    followed (body_leaves (bodies_of functions depth) f.body (function_env values) turns) (λ left turns.
+    Done left.returned turns))
 
 -- the value of a code in a world, with the turns that it leaves, or its first fault. Since each call takes a turn,
 -- calls nest no deeper than there are turns

@@ -49,7 +49,8 @@ is_nothing target = false
 abbrev pub undeclared : List Definition → Composite → Invocation → List (Placed (List ℕ))
 undeclared unit c i =
     (if is_nothing (target_of unit i.operator.what) then i.operator ∷ [] else [])
-    ++ filter (λ n. not (is_named (stream_names c) n.what || is_named (input_names c) n.what)) (flat_map (λ p. p.streams) i.inputs)
+    ++ filter (λ n. not (is_named (stream_names c) n.what || is_named (input_names c) n.what))
+    (flat_map (λ p. p.streams) i.inputs)
     ++ filter (λ n. not (is_parameter c n.what)) (dollars (clause_mentions i.clauses))
 
 -- ---- heads
@@ -58,7 +59,8 @@ undeclared unit c i =
 -- has a default or an argument
 abbrev pub fit_parameters : Composite → List Parameter → Bool
 fit_parameters c arguments =
-    list_all (λ p. (length p.values == 1) && is_parameter c p.name.what) arguments && is_empty (repeated_names (map (λ a. a.name) arguments))
+    list_all (λ p. (length p.values == 1) && is_parameter c p.name.what) arguments
+    && is_empty (repeated_names (map (λ a. a.name) arguments))
     && list_all (λ p. is_some p.default || list_any (λ a. bytes_eq a.name.what p.name.what) arguments) c.parameters
 
 -- an invocation has as many ports as the head, arguments for its parameters, and beside them at most `config`; and the
@@ -66,5 +68,6 @@ fit_parameters c arguments =
 abbrev pub fits_head : Composite → Invocation → Bool
 fits_head c i =
     (length i.outputs == length c.outputs) && (length i.inputs == length c.inputs)
-    && (is_none i.clauses.logic && is_none i.clauses.window && is_none i.clauses.output) && fit_parameters c i.clauses.parameters
+    && (is_none i.clauses.logic && is_none i.clauses.window && is_none i.clauses.output)
+    && fit_parameters c i.clauses.parameters
     && list_all (λ p. is_named (stream_names c) p.name.what) c.outputs

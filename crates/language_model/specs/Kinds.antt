@@ -48,25 +48,43 @@ parameter name role presence = record { name = name; role = role; presence = pre
 
 -- ---- the table
 
-abbrev pub row : List ℕ → PortBounds → PortBounds → Bool → List ParameterRule → Option WindowForm → Option OutputForm → Bool → KindRules
+abbrev pub row : List ℕ → PortBounds → PortBounds → Bool → List ParameterRule → Option WindowForm → Option OutputForm
+    → Bool → KindRules
 row name inputs outputs passes_on parameters window output logic =
-    record { name = name; inputs = inputs; outputs = outputs; passes_on = passes_on; parameters = parameters; window = window; output = output; logic = logic }
+    record {
+      name = name;
+      inputs = inputs;
+      outputs = outputs;
+      passes_on = passes_on;
+      parameters = parameters;
+      window = window;
+      output = output;
+      logic = logic;
+    }
 
 -- the columns are those of `KindRules`, in their order
 abbrev pub rules_of : OpKind → KindRules
-rules_of O.FileSource = row (codes "FileSource") (exactly 0) (exactly 1) false (parameter (codes "file") R.File P.Required
-    ∷ parameter (codes "format") R.Format P.Optional ∷ parameter (codes "parsing") R.Parsing P.Optional ∷ []) None None false
+rules_of O.FileSource =
+    row (codes "FileSource") (exactly 0) (exactly 1) false (parameter (codes "file") R.File P.Required
+    ∷ parameter (codes "format") R.Format P.Optional
+    ∷ parameter (codes "parsing") R.Parsing P.Optional ∷ []) None None false
 rules_of O.FileSink = row (codes "FileSink") (exactly 1) (exactly 0) false (parameter (codes "file") R.File P.Required
     ∷ parameter (codes "format") R.Format P.Optional ∷ []) None None false
-rules_of O.Filter = row (codes "Filter") (exactly 1) (exactly 1) true (parameter (codes "filter") R.Condition P.Optional ∷ []) None None false
+rules_of O.Filter =
+    row (codes "Filter") (exactly 1) (exactly 1) true
+    (parameter (codes "filter") R.Condition P.Optional ∷ []) None None false
 rules_of O.Functor = row (codes "Functor") (exactly 1) (exactly 1) false
     (parameter (codes "filter") R.Condition P.Optional ∷ []) None (Some F.Tuple) false
-rules_of O.Punctor = row (codes "Punctor") (exactly 1) (exactly 1) true (parameter (codes "punctuation") R.Condition P.Required
+rules_of O.Punctor =
+    row (codes "Punctor") (exactly 1) (exactly 1) true (parameter (codes "punctuation") R.Condition P.Required
     ∷ parameter (codes "position") R.Position P.Required ∷ []) None None false
-rules_of O.Split = row (codes "Split") (exactly 1) (between 1 16) true (parameter (codes "index") R.Index P.Required ∷ []) None None false
+rules_of O.Split =
+    row (codes "Split") (exactly 1) (between 1 16) true
+    (parameter (codes "index") R.Index P.Required ∷ []) None None false
 rules_of O.Union = row (codes "Union") (between 1 16) (exactly 1) false [] None None false
 rules_of O.Custom = row (codes "Custom") (between 1 16) (between 0 16) false [] None None true
-rules_of O.Aggregate = row (codes "Aggregate") (exactly 1) (exactly 1) false (parameter (codes "partitionBy") R.Attributes P.WithPartitions
+rules_of O.Aggregate =
+    row (codes "Aggregate") (exactly 1) (exactly 1) false (parameter (codes "partitionBy") R.Attributes P.WithPartitions
     ∷ parameter (codes "groupBy") R.Attributes P.Optional ∷ []) (Some W.Aggregate) (Some F.Groups) false
 rules_of O.Join = row (codes "Join") (exactly 2) (exactly 1) false
     (parameter (codes "match") R.Condition P.Optional ∷ []) (Some W.Join) (Some F.Tuple) false

@@ -33,7 +33,8 @@ number_literal scope follow e = level_literal scope follow e (out-ExprKind e.wha
 
 -- a file's name is UTF-8, not empty, and not `-`
 abbrev pub file_or_mismatch : ℕ → List ℕ → Found (List ℕ)
-file_or_mismatch at bytes = if is_utf8 bytes && not (is_empty bytes) && not (bytes_eq bytes (codes "-")) then Ok bytes else mismatch at
+file_or_mismatch at bytes =
+    if is_utf8 bytes && not (is_empty bytes) && not (bytes_eq bytes (codes "-")) then Ok bytes else mismatch at
 
 abbrev pub level_text : ℕ → ExprKind-F ExprKind → Found (List ℕ)
 level_text at (X.Text bytes) = file_or_mismatch at bytes
@@ -42,7 +43,8 @@ level_text at _ = mismatch at
 -- a text literal, or a `$` parameter that is a text and means one
 abbrev pub level_file : Scope → (Expr → Option Expr) → Expr → ExprKind-F ExprKind → Found (List ℕ)
 level_file scope follow e (X.Dollar name) =
-    after (typing scope e (Some S.Text)) (λ t. option_map_or (λ x. level_text e.at (out-ExprKind x.what)) (follow e) (mismatch e.at))
+    after (typing scope e (Some S.Text)) (λ t. option_map_or
+    (λ x. level_text e.at (out-ExprKind x.what)) (follow e) (mismatch e.at))
 level_file scope follow e kind = level_text e.at kind
 
 abbrev pub file_typing : Scope → (Expr → Option Expr) → Expr → Found (List ℕ)

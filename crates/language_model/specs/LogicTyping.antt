@@ -82,7 +82,8 @@ level_state given _ = false
 abbrev pub state_value : List Dollar → SplType → Option Expr → Found (Code Slot)
 state_value given t None = first_value (constant_scope given) t None
 state_value given t (Some e) =
-    if fold-ExprKind Bool (level_state given) e.what then first_value (constant_scope given) t (Some e) else refused E.LeftOut e.at (Some (codes "state"))
+    if fold-ExprKind Bool (level_state given) e.what then first_value (constant_scope given) t (Some e)
+    else refused E.LeftOut e.at (Some (codes "state"))
 
 -- ---- the state
 
@@ -104,7 +105,8 @@ event_word H.Punctuation = codes "onPunct"
 -- the handler of an event on a port
 abbrev pub handler_of : HandledEvent → ℕ → List Handled → Option (List Statement)
 handler_of event port [] = None
-handler_of event port (h ∷ hs) = if is_event h.event event && (h.port == port) then Some h.body else handler_of event port hs
+handler_of event port (h ∷ hs) =
+    if is_event h.event event && (h.port == port) then Some h.body else handler_of event port hs
 
 -- where a Custom stands: what the names of types mean, what its expressions may name besides the state, and its outputs
 -- by their names and attributes
@@ -116,21 +118,32 @@ pub record Surroundings : Type 0 where
 
 -- a handler of tuples sees the port's, and one of markers sees none but may ask for the marker
 abbrev pub handler_scope : Surroundings → List StateVariable → HandledEvent → Port → Scope
-handler_scope around state H.Tuple port = record around.scope { vars = map (λ x. x.variable) state; ports = port ∷ []; punct = false }
-handler_scope around state H.Punctuation port = record around.scope { vars = map (λ x. x.variable) state; ports = []; punct = true }
+handler_scope around state H.Tuple port =
+    record around.scope { vars = map (λ x. x.variable) state; ports = port ∷ []; punct = false }
+handler_scope around state H.Punctuation port =
+    record around.scope { vars = map (λ x. x.variable) state; ports = []; punct = true }
 
 -- on a port of the name, whose event has no handler before
-abbrev pub handler_typing : Surroundings → List StateVariable → List Handled → Placed Handler → Option (At Port) → Found Handled
+abbrev pub handler_typing : Surroundings → List StateVariable → List Handled → Placed Handler → Option (At Port)
+    → Found Handled
 handler_typing around state before h None = unknown h.what.port.at h.what.port.what
 handler_typing around state before h (Some port) =
-    if is_some (handler_of h.what.event port.place before) then refused E.ExtraParameter h.at (Some (event_word h.what.event))
-    else after (body_typing (record { types = around.types; purpose = OfHandler around.schemas; outputs = around.outputs })
-    (handler_scope around state h.what.event port.what) h.what.body) (λ row. Ok (record { event = h.what.event; port = port.place; body = row }))
+    if is_some (handler_of h.what.event port.place before)
+    then refused E.ExtraParameter h.at (Some (event_word h.what.event))
+    else after (body_typing (record {
+      types = around.types;
+      purpose = OfHandler around.schemas;
+      outputs = around.outputs;
+    })
+    (handler_scope around state h.what.event port.what) h.what.body) (λ row.
+    Ok (record { event = h.what.event; port = port.place; body = row }))
 
-abbrev pub handlers_typing : Surroundings → List StateVariable → List Handled → List (Placed Handler) → Found (List Handled)
+abbrev pub handlers_typing : Surroundings → List StateVariable → List Handled → List (Placed Handler)
+    → Found (List Handled)
 handlers_typing around state before [] = Ok before
 handlers_typing around state before (h ∷ hs) =
-    after (handler_typing around state before h (first_from (λ p. bytes_eq p.name h.what.port.what) 0 around.scope.ports))
+    after (handler_typing around state before h (first_from
+    (λ p. bytes_eq p.name h.what.port.what) 0 around.scope.ports))
     (λ x. handlers_typing around state (before ++ x ∷ []) hs)
 
 -- the handlers of an event on this number of ports, from one on
@@ -150,5 +163,6 @@ handlers_made around state handled = record {
 -- a Custom without logic does nothing
 abbrev pub logic_typing : Surroundings → Option (Placed Logic) → Found Handlers
 logic_typing around None = Ok (handlers_made around [] [])
-logic_typing around (Some l) = after (each (state_variable around.types around.scope.dollars) (λ x. x) l.what.state) (λ state.
+logic_typing around (Some l) =
+    after (each (state_variable around.types around.scope.dollars) (λ x. x) l.what.state) (λ state.
     after (handlers_typing around state [] l.what.handlers) (λ handled. Ok (handlers_made around state handled)))

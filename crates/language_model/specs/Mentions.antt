@@ -58,7 +58,8 @@ level_statement (Z.Block ss) = flat_map (λ s. s.what) ss
 level_statement (Z.Declare d) = option_map_or expr_mentions d.value []
 level_statement (Z.Assign place op e) = expr_mentions place ++ expr_mentions e
 level_statement (Z.Call e) = expr_mentions e
-level_statement (Z.If arms other) = flat_map (λ a. expr_mentions a.0 ++ a.1.what) arms ++ option_map_or (λ s. s.what) other []
+level_statement (Z.If arms other) =
+    flat_map (λ a. expr_mentions a.0 ++ a.1.what) arms ++ option_map_or (λ s. s.what) other []
 level_statement (Z.While c s) = expr_mentions c ++ s.what
 level_statement (Z.For a e s) = expr_mentions e ++ s.what
 level_statement (Z.Return e) = option_map_or expr_mentions e []
@@ -71,12 +72,15 @@ block_mentions ss = flat_map (λ s. fold-StmtKind Mentions level_statement s.wha
 -- ---- clauses
 
 abbrev pub logic_mentions : Logic → Mentions
-logic_mentions l = flat_map (λ d. option_map_or expr_mentions d.value []) l.state ++ flat_map (λ h. block_mentions h.what.body) l.handlers
+logic_mentions l =
+    flat_map (λ d. option_map_or expr_mentions d.value []) l.state
+    ++ flat_map (λ h. block_mentions h.what.body) l.handlers
 
 abbrev pub clause_mentions : Clauses → Mentions
 clause_mentions c =
     option_map_or (λ l. logic_mentions l.what) c.logic []
-    ++ option_map_or (λ w. flat_map (λ q. flat_map (λ p. option_map_or (flat_map expr_mentions) p.arguments []) q.parts) w.what) c.window []
+    ++ option_map_or (λ w. flat_map (λ q. flat_map
+    (λ p. option_map_or (flat_map expr_mentions) p.arguments []) q.parts) w.what) c.window []
     ++ flat_map (λ p. flat_map expr_mentions p.values) c.parameters
     ++ option_map_or (λ o. flat_map (λ a. flat_map (λ f. expr_mentions f.value) a.assignments) o.what) c.output []
     ++ flat_map (λ p. flat_map expr_mentions p.values) c.config

@@ -34,7 +34,9 @@ pub record Output : Type 0 where
 -- those of the names of the streams that invocations make, in the order of the text
 abbrev pub outputs_from : ℕ → List Invocation → List Output
 outputs_from number [] = []
-outputs_from number (i ∷ is) = map (λ k. record { invocation = number; output = k }) (numbers_from 0 (length i.outputs)) ++ outputs_from (suc number) is
+outputs_from number (i ∷ is) =
+    map (λ k. record { invocation = number; output = k }) (numbers_from 0 (length i.outputs))
+    ++ outputs_from (suc number) is
 
 abbrev pub is_site : Site → Site → Bool
 is_site s t = (s.expansion == t.expansion) && (s.invocation == t.invocation)
@@ -51,7 +53,8 @@ output_place c k = option_and_then (λ p. place_of p.name.what (stream_names c))
 abbrev pub operator_or_expansion : (Source → Option ℕ) → Made → Site → ℕ → Option ℕ → Option ℕ
 operator_or_expansion inner made s k operator =
     option_map_or (λ n. Some (first_stream made.ops n + k)) operator (option_and_then
-    (λ e. option_and_then (λ x. option_and_then (λ place. inner (source e place)) (output_place x.composite.what k)) (slice_get made.expansions e))
+    (λ e. option_and_then (λ x. option_and_then (λ place. inner (source e place)) (output_place x.composite.what k))
+    (slice_get made.expansions e))
     (position (λ e. option_map_or (is_site s) e.site false) made.expansions))
 
 -- the number of the stream that a name means; outputs of composites are followed at most this number of times
@@ -83,11 +86,13 @@ ops_from made n (op ∷ ops) =
 
 abbrev pub streams_from : ℕ → List Operation → List Stream
 streams_from n [] = []
-streams_from n (op ∷ ops) = map (λ port. record { maker = n; port = port }) (numbers_from 0 op.outputs) ++ streams_from (suc n) ops
+streams_from n (op ∷ ops) =
+    map (λ port. record { maker = n; port = port }) (numbers_from 0 op.outputs) ++ streams_from (suc n) ops
 
 -- what an input takes: how many streams, as far as they are counted, and the first
 abbrev pub input_streams : Made → List Source → InputStreams
-input_streams made xs = record { count = min (length xs) (2 ^ 30); first = unwrap_or (first_of (streams_of made (take 1 xs))) 0 }
+input_streams made xs =
+    record { count = min (length xs) (2 ^ 30); first = unwrap_or (first_of (streams_of made (take 1 xs))) 0 }
 
 -- the expansions, from a number on, each with the streams that all names of its graph mean, and what its inputs take
 abbrev pub expansions_from : Made → ℕ → List Inlined → List Expansion

@@ -89,7 +89,8 @@ level_in_map k _ = Unfit
 abbrev pub binary_of : BinaryCode → Value → Value → CallOutcome
 binary_of (D.Integers op k) v w = level_integers op k (out-Value v) (out-Value w)
 binary_of D.Join v w = level_join (out-Value v) (out-Value w)
-binary_of (D.Order op) v w = if are_alike (out-Value v) (out-Value w) then Gives (V.Bool (in_order op (value_cmp v w))) else Unfit
+binary_of (D.Order op) v w =
+    if are_alike (out-Value v) (out-Value w) then Gives (V.Bool (in_order op (value_cmp v w))) else Unfit
 binary_of D.Equal v w = Gives (V.Bool (eq_by_cmp value_cmp v w))
 binary_of D.NotEqual v w = Gives (V.Bool (not (eq_by_cmp value_cmp v w)))
 binary_of D.InList v w = level_in_list v (out-Value w)

@@ -52,13 +52,16 @@ assignment_typing assigns schema before f =
     (attribute_of schema f.name.what) (bad_output f.name.at))
 
 -- after those with the places `before`, of which the last comes first
-abbrev pub assignments_typing : {A : Type 0} → Assigns A → List (Named SplType) → List ℕ → List (Field Expr) → Found (Assigned A)
+abbrev pub assignments_typing : {A : Type 0} → Assigns A → List (Named SplType) → List ℕ → List (Field Expr)
+    → Found (Assigned A)
 assignments_typing assigns schema before [] = Ok []
 assignments_typing assigns schema before (f ∷ fs) =
-    after (assignment_typing assigns schema before f) (λ x. after (assignments_typing assigns schema (x.0 ∷ before) fs) (λ rest. Ok (x ∷ rest)))
+    after (assignment_typing assigns schema before f) (λ x.
+    after (assignments_typing assigns schema (x.0 ∷ before) fs) (λ rest. Ok (x ∷ rest)))
 
 -- all of a clause, after those with the places `before`: each row is for the output of its name, which may come again
-abbrev pub rows_typing : {A : Type 0} → Assigns A → List (Named SplType) → List ℕ → List ℕ → List OutputAssignments → Found (Assigned A)
+abbrev pub rows_typing : {A : Type 0} → Assigns A → List (Named SplType) → List ℕ → List ℕ → List OutputAssignments
+    → Found (Assigned A)
 rows_typing assigns schema output before [] = Ok []
 rows_typing assigns schema output before (o ∷ os) =
     if bytes_eq o.stream.what output then after (assignments_typing assigns schema before o.assignments) (λ xs.
@@ -83,7 +86,8 @@ with_others fills schema xs = after (filled_from fills xs 0 schema) (λ rest. Ok
 
 -- the attribute of the name that exactly one port has, of the same type
 abbrev pub one_attribute : ℕ → SplType → List PortAttribute → Found (Code Slot)
-one_attribute at t (a ∷ []) = if same_types a.kind t then Ok (C.Name (L.Attribute a.port a.attribute)) else bad_output at
+one_attribute at t (a ∷ []) =
+    if same_types a.kind t then Ok (C.Name (L.Attribute a.port a.attribute)) else bad_output at
 one_attribute at t attributes = bad_output at
 
 abbrev pub taken_over : Scope → ℕ → Fills (Code Slot)
@@ -108,8 +112,10 @@ pub data Collecting : Type 0 where
 
 abbrev pub collecting_of : List ℕ → Option Collecting
 collecting_of name =
-    looked_up None ((codes "Sum", Some Summing) ∷ (codes "Min", Some (Extreme K.Min)) ∷ (codes "Max", Some (Extreme K.Max))
-    ∷ (codes "First", Some (Choosing K.First)) ∷ (codes "Any", Some (Choosing K.First)) ∷ (codes "Last", Some (Choosing K.Last))
+    looked_up None ((codes "Sum", Some Summing) ∷ (codes "Min", Some (Extreme K.Min))
+    ∷ (codes "Max", Some (Extreme K.Max))
+    ∷ (codes "First", Some (Choosing K.First)) ∷ (codes "Any", Some (Choosing K.First))
+    ∷ (codes "Last", Some (Choosing K.Last))
     ∷ (codes "Count", Some Counting) ∷ []) name
 
 -- what an attribute gets, without its place
@@ -128,12 +134,14 @@ level_gathers at _ code t _ = mismatch at
 abbrev pub called_typing : Scope → ℕ → Collecting → List Expr → Found CollectorCall
 called_typing scope at Counting [] = Ok (record { collector = K.Count; argument = None; kind = int32 })
 called_typing scope at Counting es = wrong_call at
-called_typing scope at collecting (e ∷ []) = after (typing scope e None) (λ t. level_gathers e.at collecting t.code t.kind (out-SplType t.kind))
+called_typing scope at collecting (e ∷ []) =
+    after (typing scope e None) (λ t. level_gathers e.at collecting t.code t.kind (out-SplType t.kind))
 called_typing scope at collecting es = wrong_call at
 
 -- exactly one call of such a function
 abbrev pub level_gathered : Scope → ℕ → ExprKind-F ExprKind → Found CollectorCall
-level_gathered scope at (X.Call name es) = option_map_or (λ collecting. called_typing scope at collecting es) (collecting_of name) (mismatch at)
+level_gathered scope at (X.Call name es) =
+    option_map_or (λ collecting. called_typing scope at collecting es) (collecting_of name) (mismatch at)
 level_gathered scope at _ = mismatch at
 
 -- and its type is the one that is wanted
@@ -142,7 +150,8 @@ assigned_group scope wanted e = after (level_gathered scope e.at (out-ExprKind e
     option_map_or (λ t. if same_types g.kind t then Ok g else mismatch e.at) wanted (Ok g))
 
 -- the output of an Aggregate. What has no assignment gets the attribute of the group's last tuple
-abbrev pub groups_typing : Scope → ℕ → List (Named SplType) → List ℕ → List OutputAssignments → Found (List CollectedAttribute)
+abbrev pub groups_typing : Scope → ℕ → List (Named SplType) → List ℕ → List OutputAssignments
+    → Found (List CollectedAttribute)
 groups_typing scope at schema output rows = after (rows_typing (assigned_group scope) schema output [] rows) (λ xs.
     after (with_others (λ a. after (taken_over scope at a) (λ code. Ok (gathers K.Last code a.kind))) schema xs) (λ all.
     Ok (map (λ x. record { attribute = x.0; collector = x.1.collector; argument = x.1.argument }) all)))
@@ -152,7 +161,8 @@ groups_typing scope at schema output rows = after (rows_typing (assigned_group s
 -- the places in an input of the output's attributes
 abbrev pub places_typing : ℕ → List (Named SplType) → List (Named SplType) → Found (List ℕ)
 places_typing at input schema =
-    each (λ a. option_map_or (λ b. if same_types b.what.kind a.kind then Ok b.place else bad_output at) (attribute_of input a.name) (bad_output at))
+    each (λ a. option_map_or (λ b. if same_types b.what.kind a.kind then Ok b.place
+    else bad_output at) (attribute_of input a.name) (bad_output at))
     (λ place. place) schema
 
 abbrev pub inputs_typing : ℕ → List (Named SplType) → List Port → Found (List (List ℕ))

@@ -34,7 +34,8 @@ use Rattle.language_model.specs.Typing.{Found, after, level_index, looked_up, mi
 -- what the values of the parameter of the name are, where the operator has it
 abbrev pub role_of : OpKind → Bool → List ℕ → Option Role
 role_of kind partitioned name =
-    option_map (λ p. p.role) (find (λ p. is_had partitioned p.presence && bytes_eq p.name name) (rules_of kind).parameters)
+    option_map (λ p. p.role) (find (λ p. is_had partitioned p.presence
+    && bytes_eq p.name name) (rules_of kind).parameters)
 
 -- those that are needed
 abbrev pub needed : OpKind → Bool → List (List ℕ)
@@ -61,7 +62,8 @@ word_typing table e = option_map_or (looked_up (mismatch e.at) table) (level_wor
 abbrev pub key_of : List (Named SplType) → List ℕ → ℕ → Option (List ℕ) → Found ℕ
 key_of schema before at word =
     option_map_or (λ name. option_map_or (λ a.
-    if level_is_key_type (out-SplType a.what.kind) then (if list_any (λ n. n == a.place) before then mismatch at else Ok a.place) else mismatch at)
+    if level_is_key_type (out-SplType a.what.kind)
+    then (if list_any (λ n. n == a.place) before then mismatch at else Ok a.place) else mismatch at)
     (attribute_of schema name) (unknown at name)) word (mismatch at)
 
 -- bare names of attributes, each once
@@ -80,16 +82,21 @@ one_value at value (e ∷ d ∷ es) = after (value e) (λ x. mismatch d.at)
 abbrev pub single_value : Site → Role → Expr → Found ParameterValue
 single_value site R.File e = after (file_typing site.scope site.follow e) (λ bytes. Ok (V.File bytes))
 single_value site R.Format e = word_typing ((codes "csv", Ok V.Format) ∷ []) e
-single_value site R.Parsing e = word_typing ((codes "strict", Ok (V.Strict true)) ∷ (codes "permissive", Ok (V.Strict false)) ∷ []) e
-single_value site R.Position e = word_typing ((codes "before", Ok (V.Position P.Before)) ∷ (codes "after", Ok (V.Position P.After)) ∷ []) e
+single_value site R.Parsing e =
+    word_typing ((codes "strict", Ok (V.Strict true)) ∷ (codes "permissive", Ok (V.Strict false)) ∷ []) e
+single_value site R.Position e =
+    word_typing ((codes "before", Ok (V.Position P.Before)) ∷ (codes "after", Ok (V.Position P.After)) ∷ []) e
 single_value site R.Condition e = after (typing site.scope e (Some S.Bool)) (λ t. Ok (V.Code t.code))
-single_value site R.Index e = after (typing site.scope e None) (λ t. after (level_index e.at t.code (out-SplType t.kind)) (λ code. Ok (V.Code code)))
+single_value site R.Index e =
+    after (typing site.scope e None) (λ t. after (level_index e.at t.code (out-SplType t.kind)) (λ code.
+    Ok (V.Code code)))
 single_value site R.Attributes e = mismatch e.at
 
 -- one attribute or more of the first port, or one value
 abbrev pub value_typing : Site → Parameter → Role → Found ParameterValue
 value_typing site p R.Attributes =
-    after (of_first (mismatch p.name.at) (λ e es. keys_typing (of_first [] (λ q others. q.schema) site.scope.ports) [] (e ∷ es)) p.values) (λ places.
+    after (of_first (mismatch p.name.at) (λ e es. keys_typing
+    (of_first [] (λ q others. q.schema) site.scope.ports) [] (e ∷ es)) p.values) (λ places.
     Ok (V.Places places))
 value_typing site p role = one_value p.name.at (single_value site role) p.values
 

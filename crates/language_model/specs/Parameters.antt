@@ -46,7 +46,8 @@ constant_scope given = record no_names { dollars = given }
 
 -- an expression as the value of a parameter of the type
 abbrev pub constant_typing : List Dollar → Expr → SplType → Found Typed
-constant_typing given e t = if fold-ExprKind Bool level_constant e.what then typing (constant_scope given) e (Some t) else mismatch e.at
+constant_typing given e t =
+    if fold-ExprKind Bool level_constant e.what then typing (constant_scope given) e (Some t) else mismatch e.at
 
 -- ---- the parameters of one expansion
 
@@ -54,7 +55,8 @@ constant_typing given e t = if fold-ExprKind Bool level_constant e.what then typ
 -- may name those of the composite itself, and without both the parameter is unknown
 abbrev pub parameter_typing : Types → List Dollar → List Dollar → List Parameter → CompositeParameter → Found Typed
 parameter_typing types outer own arguments p =
-    after (type_meant types p.kind) (λ t. option_map_or (λ argument. constant_typing outer argument t) (value_named arguments p.name.what)
+    after (type_meant types p.kind) (λ t. option_map_or
+    (λ argument. constant_typing outer argument t) (value_named arguments p.name.what)
     (option_map_or (λ e. constant_typing own e t) p.default (unknown p.name.at p.name.what)))
 
 -- the place of the parameter of the name
@@ -64,18 +66,22 @@ parameter_place parameters name = option_map (λ p. p.place) (first_from (λ p. 
 -- the places of the parameters that stand in the default of the one at a place, where it has no argument
 abbrev pub parameter_leads : List CompositeParameter → List Parameter → ℕ → List ℕ
 parameter_leads parameters arguments place = option_map_or (λ p. if is_some (value_named arguments p.name.what) then []
-    else option_map_or (λ e. filter_map (parameter_place parameters) (dollars_in e)) p.default []) (slice_get parameters place) []
+    else option_map_or (λ e. filter_map (parameter_place parameters) (dollars_in e)) p.default [])
+    (slice_get parameters place) []
 
 -- a parameter has a meaning where it is the first of its name and its default doesn't lead back to it
 abbrev pub has_meaning : List CompositeParameter → List Parameter → ℕ → CompositeParameter → Bool
-has_meaning parameters arguments place p = option_map_or (λ first. first == place) (parameter_place parameters p.name.what) false
+has_meaning parameters arguments place p =
+    option_map_or (λ first. first == place) (parameter_place parameters p.name.what) false
     && not (leads_back (length parameters) (parameter_leads parameters arguments) place)
 
 -- those from a place on that pass, with what is found for each
-abbrev pub own_from : (ℕ → CompositeParameter → Bool) → (CompositeParameter → Found Typed) → ℕ → List CompositeParameter → List Dollar
+abbrev pub own_from : (ℕ → CompositeParameter → Bool) → (CompositeParameter → Found Typed) → ℕ → List CompositeParameter
+    → List Dollar
 own_from passes found place [] = []
 own_from passes found place (p ∷ ps) =
-    (if passes place p then record { name = p.name.what; found = found p } ∷ [] else []) ++ own_from passes found (suc place) ps
+    (if passes place p then record { name = p.name.what; found = found p } ∷ [] else [])
+    ++ own_from passes found (suc place) ps
 
 -- the parameters of a composite that is invoked with these arguments, where there are those of the outer one. One that
 -- leads back to itself by its default has no meaning, also where another has its name. Defaults are followed at most
@@ -83,7 +89,8 @@ own_from passes found place (p ∷ ps) =
 abbrev pub own_within : ℕ → Types → List Dollar → List Parameter → List CompositeParameter → List Dollar
 own_within zero types outer arguments parameters = []
 own_within (suc count) types outer arguments parameters =
-    own_from (has_meaning parameters arguments) (parameter_typing types outer (own_within count types outer arguments parameters) arguments) 0 parameters
+    own_from (has_meaning parameters arguments) (parameter_typing types outer
+    (own_within count types outer arguments parameters) arguments) 0 parameters
 
 -- ---- the parameters of all expansions
 
@@ -97,13 +104,15 @@ table_at tables number = option_map_or (λ table. table) (slice_get tables numbe
 -- there are parameters
 abbrev pub expansion_dollars : List Definition → List Expansion → Tables → Expansion → List Dollar
 expansion_dollars unit expansions before x =
-    option_map_or (λ c. own_within (length c.parameters) (composite_types unit c) (option_map_or (λ s. table_at before s.expansion) x.site [])
+    option_map_or (λ c. own_within (length c.parameters) (composite_types unit c)
+    (option_map_or (λ s. table_at before s.expansion) x.site [])
     (arguments_of unit expansions x) c.parameters) (composite_of unit x) []
 
 abbrev pub tables_from : List Definition → List Expansion → Tables → List Expansion → Tables
 tables_from unit expansions before [] = []
 tables_from unit expansions before (x ∷ xs) =
-    expansion_dollars unit expansions before x ∷ tables_from unit expansions (before ++ expansion_dollars unit expansions before x ∷ []) xs
+    expansion_dollars unit expansions before x ∷ tables_from unit expansions
+    (before ++ expansion_dollars unit expansions before x ∷ []) xs
 
 -- an expansion comes after the one in which it is invoked
 abbrev pub dollar_tables : List Definition → List Expansion → Tables

@@ -50,7 +50,8 @@ fitting test at o = option_map_or (λ n. if test n then Ok n.value else bad_wind
 
 -- a number of tuples, at least `least`, as the one argument of a part
 abbrev pub only_count : Numbers → ℕ → WindowPart → Option (List Expr) → Found ℕ
-only_count numbers least p (Some (e ∷ [])) = after (numbers e) (fitting (λ n. nat_le least n.value && nat_le n.value most_tuples) e.at)
+only_count numbers least p (Some (e ∷ [])) =
+    after (numbers e) (fitting (λ n. nat_le least n.value && nat_le n.value most_tuples) e.at)
 only_count numbers least p arguments = bad_window p.name.at
 
 -- an attribute of an integer type, by its name
@@ -75,7 +76,8 @@ pub record Delta : Type 0 where
 abbrev pub delta_of : Numbers → List (Named SplType) → WindowPart → Option (List Expr) → Found Delta
 delta_of numbers schema p (Some (a ∷ e ∷ [])) =
     after (level_attribute schema a.at (out-ExprKind a.what)) (λ found. after (numbers e) (λ o.
-    after (fitting (λ n. same_types (S.Int n.kind) (S.Int found.kind) && kind_holds found.kind (pos n.value)) e.at o) (λ limit.
+    after (fitting (λ n. same_types (S.Int n.kind) (S.Int found.kind) && kind_holds found.kind (pos n.value)) e.at o)
+    (λ limit.
     Ok (record { attribute = found.place; limit = limit }))))
 delta_of numbers schema p arguments = bad_window p.name.at
 
@@ -89,7 +91,8 @@ abbrev pub is_word : List ℕ → WindowPart → Bool
 is_word name p = has_name name p && is_none p.arguments
 
 -- a window with a number of tuples or a limit: which it is, from either
-abbrev pub measured : {A : Type 0} → Numbers → ℕ → List (Named SplType) → (ℕ → A) → (Delta → A) → Found A → WindowPart → Found A
+abbrev pub measured : {A : Type 0} → Numbers → ℕ → List (Named SplType) → (ℕ → A) → (Delta → A) → Found A → WindowPart
+    → Found A
 measured numbers least schema by_count by_delta other p =
     if has_name (codes "count") p then after (only_count numbers least p p.arguments) (λ n. Ok (by_count n))
     else if has_name (codes "delta") p then after (delta_of numbers schema p p.arguments) (λ d. Ok (by_delta d))
@@ -105,7 +108,8 @@ are_no_arguments _ = false
 
 -- `punct()`
 abbrev pub punctuated : WindowPart → Found WindowRule
-punctuated p = if has_name (codes "punct") p && are_no_arguments p.arguments then Ok W.TumblingPunct else bad_window p.name.at
+punctuated p =
+    if has_name (codes "punct") p && are_no_arguments p.arguments then Ok W.TumblingPunct else bad_window p.name.at
 
 -- how the parts of a window are read, whose port has these attributes and stands at that place
 abbrev pub RuleReading : Type 0
@@ -115,19 +119,22 @@ RuleReading = Numbers → List (Named SplType) → ℕ → List WindowPart → F
 abbrev pub tumbling : RuleReading
 tumbling numbers schema at [] = bad_window at
 tumbling numbers schema at (p ∷ ps) =
-    after (measured numbers 1 schema W.TumblingCount (λ d. W.TumblingDelta d.attribute (pos d.limit)) (punctuated p) p) (λ rule. nothing_follows rule ps)
+    after (measured numbers 1 schema W.TumblingCount (λ d. W.TumblingDelta d.attribute (pos d.limit)) (punctuated p) p)
+    (λ rule. nothing_follows rule ps)
 
 -- what slides: tuples that are kept, by the count that fires
 abbrev pub sliding_rule : Numbers → ℕ → List (Named SplType) → WindowPart → Found (Option ℕ → WindowRule)
 sliding_rule numbers least schema p =
-    measured numbers least schema (λ n every. W.SlidingCount n every) (λ d every. W.SlidingDelta d.attribute (pos d.limit) every) (bad_window p.name.at) p
+    measured numbers least schema (λ n every. W.SlidingCount n every)
+    (λ d every. W.SlidingDelta d.attribute (pos d.limit) every) (bad_window p.name.at) p
 
 -- after `sliding`: what is kept, and then the count that fires
 abbrev pub sliding_with_trigger : RuleReading
 sliding_with_trigger numbers schema at [] = bad_window at
 sliding_with_trigger numbers schema at (p ∷ ps) =
     after (sliding_rule numbers 1 schema p) (λ rule. after (of_first (bad_window at) (λ q others.
-    after (if has_name (codes "count") q then only_count numbers 1 q q.arguments else bad_window q.name.at) (λ n. nothing_follows n others)) ps) (λ every.
+    after (if has_name (codes "count") q then only_count numbers 1 q q.arguments
+    else bad_window q.name.at) (λ n. nothing_follows n others)) ps) (λ every.
     Ok (rule (Some every))))
 
 -- ---- windows
@@ -144,7 +151,8 @@ aggregate_rule numbers schema at (p ∷ ps) =
 abbrev pub join_rule : RuleReading
 join_rule numbers schema at [] = bad_window at
 join_rule numbers schema at (p ∷ ps) = if is_word (codes "sliding") p
-    then of_first (bad_window at) (λ q others. after (sliding_rule numbers 0 schema q) (λ rule. nothing_follows (rule None) others)) ps
+    then of_first (bad_window at) (λ q others. after (sliding_rule numbers 0 schema q)
+    (λ rule. nothing_follows (rule None) others)) ps
     else bad_window p.name.at
 
 -- whether the last part is `partitioned`, and the parts without it
@@ -155,13 +163,15 @@ pub record Parts : Type 0 where
 abbrev pub partitioned_last : List WindowPart → Parts
 partitioned_last [] = record { partitioned = false; others = [] }
 partitioned_last (p ∷ []) =
-    if is_word (codes "partitioned") p then record { partitioned = true; others = [] } else record { partitioned = false; others = p ∷ [] }
+    if is_word (codes "partitioned") p then record { partitioned = true; others = [] }
+    else record { partitioned = false; others = p ∷ [] }
 partitioned_last (p ∷ ps) = record (partitioned_last ps) { others = p ∷ (partitioned_last ps).others }
 
 -- `partitioned` stands first or last, or not at all
 abbrev pub partitioned_or_not : List WindowPart → Parts
 partitioned_or_not [] = record { partitioned = false; others = [] }
-partitioned_or_not (p ∷ ps) = if is_word (codes "partitioned") p then record { partitioned = true; others = ps } else partitioned_last (p ∷ ps)
+partitioned_or_not (p ∷ ps) =
+    if is_word (codes "partitioned") p then record { partitioned = true; others = ps } else partitioned_last (p ∷ ps)
 
 -- ---- a clause
 
@@ -169,10 +179,12 @@ partitioned_or_not (p ∷ ps) = if is_word (codes "partitioned") p then record {
 -- one
 abbrev pub window_of : (Port → PortWindow → Found Policy) → List ℕ → PortWindow → Option (At Port) → Found (ℕ × Policy)
 window_of policy given w o =
-    option_map_or (λ port. if list_any (λ n. n == port.place) given then refused E.ExtraParameter w.port.at (Some (codes "window"))
+    option_map_or (λ port. if list_any (λ n. n == port.place) given
+    then refused E.ExtraParameter w.port.at (Some (codes "window"))
     else after (policy port.what w) (λ x. Ok (port.place, x))) o (unknown w.port.at w.port.what)
 
-abbrev pub windows_typing : (Port → PortWindow → Found Policy) → List Port → List ℕ → List PortWindow → Found (List (ℕ × Policy))
+abbrev pub windows_typing : (Port → PortWindow → Found Policy) → List Port → List ℕ → List PortWindow
+    → Found (List (ℕ × Policy))
 windows_typing policy ports given [] = Ok []
 windows_typing policy ports given (w ∷ ws) =
     after (window_of policy given w (first_from (λ p. bytes_eq p.name w.port.what) 0 ports)) (λ x.

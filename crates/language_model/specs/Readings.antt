@@ -44,7 +44,9 @@ asks_punct = fold-ExprKind Bool level_asks
 
 -- the marker that a member of `Sys` is
 abbrev pub marker_of : List ℕ → Option Marker
-marker_of name = if bytes_eq name (codes "WindowMarker") then Some M.Window else if bytes_eq name (codes "FinalMarker") then Some M.Final else None
+marker_of name =
+    if bytes_eq name (codes "WindowMarker") then Some M.Window
+    else if bytes_eq name (codes "FinalMarker") then Some M.Final else None
 
 -- the marker that is taken of `Sys`, by one step
 abbrev pub marker_in : {A : Type 0} → Option (List ℕ) → List (Step A) → Option Marker

@@ -16,11 +16,13 @@ pub record Caller : Type 0 where
   pub called : List (Placed (List ℕ))
 
 abbrev pub function_callers : List Definition → List Caller
-function_callers unit = map (λ f. record { name = f.name.what; called = calls (block_mentions f.body) }) (functions unit)
+function_callers unit =
+    map (λ f. record { name = f.name.what; called = calls (block_mentions f.body) }) (functions unit)
 
 -- a composite calls what it invokes, at the first tokens of the invocations
 abbrev pub composite_callers : List Definition → List Caller
-composite_callers unit = map (λ c. record { name = c.name.what; called = map (λ i. placed i.at i.operator.what) c.graph }) (composites unit)
+composite_callers unit =
+    map (λ c. record { name = c.name.what; called = map (λ i. placed i.at i.operator.what) c.graph }) (composites unit)
 
 -- ---- calls by places
 
@@ -31,7 +33,8 @@ Calls = List (List (Placed ℕ))
 
 abbrev pub calls_among : List Caller → Calls
 calls_among callers =
-    map (λ c. filter_map (λ n. option_map (λ d. placed n.at d.place) (first_from (λ d. bytes_eq d.name n.what) 0 callers)) c.called) callers
+    map (λ c. filter_map (λ n. option_map (λ d. placed n.at d.place)
+    (first_from (λ d. bytes_eq d.name n.what) 0 callers)) c.called) callers
 
 -- the one at that place calls the other
 pub record IsCall (calls : Calls) (from to : ℕ) : Type 0 where

@@ -47,7 +47,8 @@ pub record PortAttribute : Type 0 where
 abbrev pub attributes_from : ℕ → List Port → List ℕ → List PortAttribute
 attributes_from i [] name = []
 attributes_from i (p ∷ ps) name =
-    option_map_or (λ a. record { port = i; attribute = a.place; kind = a.what.kind } ∷ []) (attribute_of p.schema name) []
+    option_map_or (λ a. record { port = i; attribute = a.place; kind = a.what.kind } ∷ [])
+    (attribute_of p.schema name) []
     ++ attributes_from (suc i) ps name
 
 abbrev pub attributes_of : Scope → List ℕ → List PortAttribute

@@ -46,7 +46,8 @@ pub record OpFile : Type 0 where
 abbrev pub op_file : List Definition → List Expansion → Op → List OpFile
 op_file unit expansions op =
     if is_sink op.kind || ((rules_of op.kind).inputs.most == 0)
-    then option_map_or (λ bytes. record { sink = is_sink op.kind; file = placed op.at bytes } ∷ []) (file_of unit expansions op) []
+    then option_map_or (λ bytes. record { sink = is_sink op.kind; file = placed op.at bytes } ∷ [])
+    (file_of unit expansions op) []
     else []
 
 -- a sink has a file that the command line or an operator before it has, or a source one that a sink before it has

@@ -1,6 +1,7 @@
 -- The names that codes and statements have in them, in the order of the text.
 use Rattle.std.specs.Prelude.{List, [], ◌∷◌, ◌++◌, Option, None, Some}
 use Rattle.std.specs.List.{flat_map}
+use Rattle.spl_value.specs.Flattened.{flattened}
 use Rattle.spl_tree.specs.declared.body.Change.{Change}
 use Rattle.spl_tree.specs.declared.body.Change.TheVariants as H
 use Rattle.spl_tree.specs.declared.body.Place.{Place}
@@ -19,9 +20,6 @@ use Rattle.spl_tree.specs.declared.code.Selector.TheVariants as K
 
 -- ---- codes
 
-abbrev pub joined : {A : Type 0} → List (List A) → List A
-joined = flat_map (λ xs. xs)
-
 -- those of the index or key that a step has
 abbrev pub names_in_taking : {A B : Type 0} → (B → List A) → Selector B → List A
 names_in_taking names (K.Member i) = []
@@ -31,15 +29,15 @@ names_in_taking names (K.AtKey x) = names x
 abbrev pub level_names : {N : Type 0} → Code-F N (List N) → List N
 level_names (C.Literal v) = []
 level_names (C.Name n) = n ∷ []
-level_names (C.List xs) = joined xs
+level_names (C.List xs) = flattened xs
 level_names (C.Map ps) = flat_map (λ p. p.0 ++ p.1) ps
 level_names (C.Tuple fs) = flat_map (λ f. f.1) fs
 level_names (C.Select x ts) = x ++ flat_map (names_in_taking (λ xs. xs)) ts
 level_names (C.Unary ops x) = x
 level_names (C.Binary op x y) = x ++ y
 level_names (C.Conditional c x y) = c ++ x ++ y
-level_names (C.BuiltIn call xs) = joined xs
-level_names (C.Call i xs) = joined xs
+level_names (C.BuiltIn call xs) = flattened xs
+level_names (C.Call i xs) = flattened xs
 level_names (C.IsMarker m) = []
 level_names (C.IsNotMarker m) = []
 
@@ -62,14 +60,14 @@ returned_slots None = []
 returned_slots (Some code) = names_of code
 
 abbrev pub level_slots : Statement-F (List Slot) → List Slot
-level_slots (S.Block row) = joined row
+level_slots (S.Block row) = flattened row
 level_slots (S.Declare code) = names_of code
 level_slots (S.Change place change) = place_slots place ++ change_slots change
 level_slots (S.Evaluate code) = names_of code
 level_slots (S.Call i codes) = flat_map names_of codes
-level_slots (S.If arms other) = flat_map (λ arm. names_of arm.0 ++ joined arm.1) arms ++ joined other
-level_slots (S.While code row) = names_of code ++ joined row
-level_slots (S.For code row) = names_of code ++ joined row
+level_slots (S.If arms other) = flat_map (λ arm. names_of arm.0 ++ flattened arm.1) arms ++ flattened other
+level_slots (S.While code row) = names_of code ++ flattened row
+level_slots (S.For code row) = names_of code ++ flattened row
 level_slots S.Break = []
 level_slots S.Continue = []
 level_slots (S.Return code) = returned_slots code

@@ -48,18 +48,22 @@ level_place (O.Select base takings) = level_variable takings (out-Code Slot base
 level_place code = level_variable [] code
 
 abbrev pub place_given : ℕ → SplType → Option Place → Found TypedPlace
-place_given at t found = option_map_or (λ place. Ok (record { place = place; kind = t })) found (refused E.NotMutable at None)
+place_given at t found =
+    option_map_or (λ place. Ok (record { place = place; kind = t })) found (refused E.NotMutable at None)
 
 -- an expression that reads a place: a variable that may be changed, or what is taken of one in turn
 abbrev pub place_typing : Scope → Expr → Found TypedPlace
 place_typing scope e =
-    after (typing scope e None) (λ t. if_mutable e.at scope (parted e) (root_of e.what) (place_given e.at t.kind (level_place (out-Code Slot t.code))))
+    after (typing scope e None) (λ t. if_mutable e.at scope (parted e) (root_of e.what)
+    (place_given e.at t.kind (level_place (out-Code Slot t.code))))
 
 -- ---- assignments
 
 -- the value of the right side is of the type of what the place holds
 abbrev pub assignment_typing : Scope → Expr → Expr → Found Statement
-assignment_typing scope e right = after (place_typing scope e) (λ x. after (typing scope right (Some x.kind)) (λ y. Ok (T.Change x.place (H.Put y.code))))
+assignment_typing scope e right =
+    after (place_typing scope e) (λ x. after (typing scope right (Some x.kind)) (λ y.
+    Ok (T.Change x.place (H.Put y.code))))
 
 -- `a op= b` is `a = a op b`, whose value is of the type of what the place holds
 abbrev pub compound_typing : Scope → BinaryOperator → Expr → Expr → Found Statement
@@ -79,24 +83,30 @@ change_made at call place xs = wrong_call at
 abbrev pub change_typing : ℕ → Scope → CallName → List (Placed Part) → Found Statement
 change_typing at scope call [] = wrong_call at
 change_typing at scope call (e ∷ es) =
-    after (part_typed e scope None) (λ x. after (changed_typed at scope e es (level_changed call (out-SplType x.kind))) (λ xs.
+    after (part_typed e scope None) (λ x. after (changed_typed at scope e es (level_changed call (out-SplType x.kind)))
+    (λ xs.
     after (place_given e.at x.kind (level_place (out-Code Slot x.code))) (λ p. change_made at call p.place xs)))
 
 -- a call that the language has built in: one of those that change a place, or one that gives a value, which isn't used
 abbrev pub built_in_statement : ℕ → Scope → CallName → List (Placed Part) → Found Statement
-built_in_statement at scope A.AppendM es = if length es == argument_count A.AppendM then change_typing at scope A.AppendM es else wrong_call at
-built_in_statement at scope A.RemoveM es = if length es == argument_count A.RemoveM then change_typing at scope A.RemoveM es else wrong_call at
-built_in_statement at scope A.ClearM es = if length es == argument_count A.ClearM then change_typing at scope A.ClearM es else wrong_call at
+built_in_statement at scope A.AppendM es =
+    if length es == argument_count A.AppendM then change_typing at scope A.AppendM es else wrong_call at
+built_in_statement at scope A.RemoveM es =
+    if length es == argument_count A.RemoveM then change_typing at scope A.RemoveM es else wrong_call at
+built_in_statement at scope A.ClearM es =
+    if length es == argument_count A.ClearM then change_typing at scope A.ClearM es else wrong_call at
 built_in_statement at scope call es = after (built_in_typed at scope call es) (λ t. Ok (T.Evaluate t.code))
 
 -- a call of a function, with a result or without
 abbrev pub function_statement : ℕ → Scope → List ℕ → List (Placed Part) → Option (At Signature) → Found Statement
 function_statement at scope name es None = not_callable at name (unresolved_of scope name)
 function_statement at scope name es (Some f) =
-    if length es == length f.what.parameters then after (arguments_typed scope f.what.parameters es) (λ xs. Ok (T.Call f.place xs)) else wrong_call at
+    if length es == length f.what.parameters then after (arguments_typed scope f.what.parameters es)
+    (λ xs. Ok (T.Call f.place xs)) else wrong_call at
 
 abbrev pub level_call : ℕ → Scope → ExprKind-F ExprKind → Found Statement
-level_call at scope (X.Call name es) = option_map_or (λ call. built_in_statement at scope call (map parted es)) (call_of name)
+level_call at scope (X.Call name es) =
+    option_map_or (λ call. built_in_statement at scope call (map parted es)) (call_of name)
     (function_statement at scope name (map parted es) (function_of scope name))
 level_call at scope _ = wrong_call at
 

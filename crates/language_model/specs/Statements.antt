@@ -55,7 +55,8 @@ truth_in bodies code s turns = truth (code_value (calls_by bodies) code) (world_
 -- ---- variables and submits
 
 abbrev pub with_vars : State → List Value → State
-with_vars s vars = record { env = record { inputs = s.env.inputs; vars = vars; punct = s.env.punct }; submits = s.submits }
+with_vars s vars =
+    record { env = record { inputs = s.env.inputs; vars = vars; punct = s.env.punct }; submits = s.submits }
 
 -- a new variable after all others
 abbrev pub declared : State → Value → State
@@ -63,7 +64,8 @@ declared s v = with_vars s (s.env.vars ++ v ∷ [])
 
 -- the variables that were declared after a state end, and those that it had stay
 abbrev pub scoped : Acts → Acts
-scoped acts s turns = followed (acts s turns) (λ w turns. Done (w.0, with_vars w.1 (take (length s.env.vars) w.1.env.vars)) turns)
+scoped acts s turns =
+    followed (acts s turns) (λ w turns. Done (w.0, with_vars w.1 (take (length s.env.vars) w.1.env.vars)) turns)
 
 abbrev pub submitted : State → ℕ → Item → State
 submitted s port item = record { env = s.env; submits = s.submits ++ record { port = port; item = item } ∷ [] }
@@ -73,7 +75,8 @@ submitted s port item = record { env = s.env; submits = s.submits ++ record { po
 -- a step with the value of its index or key
 abbrev pub step_value : Bodies → Selector (Code Slot) → State → ℕ → Outcome (Selector Value)
 step_value bodies (T.Member i) s turns = Done (T.Member i) turns
-step_value bodies (T.Element code) s turns = followed (value_in bodies code s turns) (λ v turns. Done (T.Element v) turns)
+step_value bodies (T.Element code) s turns =
+    followed (value_in bodies code s turns) (λ v turns. Done (T.Element v) turns)
 step_value bodies (T.AtKey code) s turns = followed (value_in bodies code s turns) (λ v turns. Done (T.AtKey v) turns)
 
 -- the same as in an expression: each step is taken of what the steps before it give
@@ -86,14 +89,17 @@ steps_taken bodies (t ∷ ts) v s turns = followed (step_value bodies t s turns)
 -- a change with the value of its argument
 abbrev pub change_value : Bodies → Change (Code Slot) → State → ℕ → Outcome (Change Value)
 change_value bodies (H.Put code) s turns = followed (value_in bodies code s turns) (λ v turns. Done (H.Put v) turns)
-change_value bodies (H.Append code) s turns = followed (value_in bodies code s turns) (λ v turns. Done (H.Append v) turns)
-change_value bodies (H.Remove code) s turns = followed (value_in bodies code s turns) (λ v turns. Done (H.Remove v) turns)
+change_value bodies (H.Append code) s turns =
+    followed (value_in bodies code s turns) (λ v turns. Done (H.Append v) turns)
+change_value bodies (H.Remove code) s turns =
+    followed (value_in bodies code s turns) (λ v turns. Done (H.Remove v) turns)
 change_value bodies H.Clear s turns = Done H.Clear turns
 
 -- an assignment evaluates its right side, and then the indexes and keys of the place from left to right; nothing is
 -- looked up. Every other change is a call, which evaluates the place and then its argument, as a call in an expression
 -- does
-abbrev pub change_values : Bodies → Place → Change (Code Slot) → State → ℕ → Outcome (List (Selector Value) × Change Value)
+abbrev pub change_values : Bodies → Place → Change (Code Slot) → State → ℕ
+    → Outcome (List (Selector Value) × Change Value)
 change_values bodies place (H.Put code) s turns = followed (change_value bodies (H.Put code) s turns) (λ change turns.
     followed (all_of (map (step_value bodies) place.takings) s turns) (λ steps turns. Done (steps, change) turns))
 change_values bodies place change s turns = need (slice_get s.env.vars place.variable) (λ v.
@@ -115,7 +121,8 @@ in_order (first ∷ rest) s turns = followed (first s turns) (λ w turns. then_r
 abbrev pub first_true : Bodies → List (Code Slot × List Acts) → List Acts → Acts
 first_true bodies [] other s turns = scoped (in_order other) s turns
 first_true bodies (arm ∷ arms) other s turns =
-    followed (truth_in bodies arm.0 s turns) (λ b turns. if b then scoped (in_order arm.1) s turns else first_true bodies arms other s turns)
+    followed (truth_in bodies arm.0 s turns) (λ b turns.
+    if b then scoped (in_order arm.1) s turns else first_true bodies arms other s turns)
 
 -- ---- loops
 
@@ -129,7 +136,8 @@ then_again (F.Returned v, s) turns again = Done (F.Returned v, s) turns
 -- where the condition is true, a turn of the body
 abbrev pub turn_while : Bodies → Code Slot → Acts → Acts → Acts
 turn_while bodies code body again s turns = followed (truth_in bodies code s turns) (λ b turns.
-    if b then enter turns (λ turns. followed (body s turns) (λ w turns. then_again w turns again)) else Done (F.Next, s) turns)
+    if b then enter turns (λ turns. followed (body s turns) (λ w turns. then_again w turns again))
+    else Done (F.Next, s) turns)
 
 -- at most this number of turns, and one more: where the number is that of the turns that there are, it is never used up
 abbrev pub turns_while : ℕ → Bodies → Code Slot → Acts → Acts
@@ -140,7 +148,8 @@ turns_while (suc n) bodies code body = turn_while bodies code body (turns_while 
 abbrev pub turns_over : List Value → Acts → Acts
 turns_over [] body s turns = Done (F.Next, s) turns
 turns_over (v ∷ vs) body s turns =
-    enter turns (λ turns. followed (scoped (λ s turns. body (declared s v) turns) s turns) (λ w turns. then_again w turns (turns_over vs body)))
+    enter turns (λ turns. followed (scoped (λ s turns. body (declared s v) turns) s turns) (λ w turns.
+    then_again w turns (turns_over vs body)))
 
 -- the elements of a list, or the keys of a map by ascending order
 abbrev pub level_elements : Value-F Value → Option (List Value)
@@ -158,19 +167,22 @@ level_tuple _ = None
 -- variable; what a function that is called by a statement returns isn't used
 abbrev pub level_acts : Bodies → Statement-F Acts → Acts
 level_acts bodies (S.Block row) s turns = scoped (in_order row) s turns
-level_acts bodies (S.Declare code) s turns = followed (value_in bodies code s turns) (λ v turns. Done (F.Next, declared s v) turns)
+level_acts bodies (S.Declare code) s turns =
+    followed (value_in bodies code s turns) (λ v turns. Done (F.Next, declared s v) turns)
 level_acts bodies (S.Change place change) s turns = followed (change_values bodies place change s turns) (λ w turns.
     need (slice_get s.env.vars place.variable) (λ old.
     followed (settled (changed w.0 (change_of w.1) (Some old)) turns) (λ new turns.
     Done (F.Next, with_vars s (slice_set s.env.vars place.variable new)) turns)))
-level_acts bodies (S.Evaluate code) s turns = followed (value_in bodies code s turns) (λ v turns. Done (F.Next, s) turns)
+level_acts bodies (S.Evaluate code) s turns =
+    followed (value_in bodies code s turns) (λ v turns. Done (F.Next, s) turns)
 level_acts bodies (S.Call i codes) s turns =
     followed (all_of (map (code_value (calls_by bodies)) codes) (world_of s.env) turns) (λ values turns.
     enter turns (λ turns. followed (bodies i values turns) (λ returned turns. Done (F.Next, s) turns)))
 level_acts bodies (S.If arms other) s turns = first_true bodies arms other s turns
 level_acts bodies (S.While code row) s turns = turns_while turns bodies code (scoped (in_order row)) s turns
 level_acts bodies (S.For code row) s turns =
-    followed (value_in bodies code s turns) (λ v turns. need (level_elements (out-Value v)) (λ values. turns_over values (in_order row) s turns))
+    followed (value_in bodies code s turns) (λ v turns. need (level_elements (out-Value v)) (λ values.
+    turns_over values (in_order row) s turns))
 level_acts bodies S.Break s turns = Done (F.Broken, s) turns
 level_acts bodies S.Continue s turns = Done (F.Continued, s) turns
 level_acts bodies (S.Return code) s turns =
@@ -198,5 +210,6 @@ returned_by _ = None
 
 abbrev pub body_leaves : Bodies → List Statement → Env → ℕ → Outcome Left
 body_leaves bodies row env turns =
-    followed (scoped (in_order (map (fold-Statement Acts (level_acts bodies)) row)) (record { env = env; submits = [] }) turns) (λ w turns.
+    followed (scoped (in_order (map (fold-Statement Acts (level_acts bodies)) row))
+    (record { env = env; submits = [] }) turns) (λ w turns.
     need (returned_by w.0) (λ v. Done (record { vars = w.1.env.vars; submits = w.1.submits; returned = v }) turns))

@@ -63,7 +63,8 @@ body_at unit g number =
 abbrev pub stream_in : Body → List ℕ → Option ℕ
 stream_in b name =
     option_or (option_and_then (slice_get b.expansion.streams) (place_of name (stream_names b.composite)))
-    (option_map (λ i. i.first) (option_and_then (slice_get b.expansion.inputs) (place_of name (input_names b.composite))))
+    (option_map (λ i. i.first) (option_and_then (slice_get b.expansion.inputs)
+    (place_of name (input_names b.composite))))
 
 -- ---- shapes
 
@@ -84,7 +85,8 @@ kind_alone (H.Attributes attributes) = None
 -- a shape that is one name alone, and no type in the body, means the stream of the name, by its number
 abbrev pub named_stream : List Definition → Body → Shape → Option (At (List ℕ))
 named_stream unit b shape =
-    option_and_then (λ name. if is_some (definition_of b.composite.types name) || is_some (definition_of (type_definitions unit) name)
+    option_and_then (λ name. if is_some (definition_of b.composite.types name)
+    || is_some (definition_of (type_definitions unit) name)
     then None else option_map (λ s. at_place s name) (stream_in b name)) (kind_alone shape.what)
 
 -- ---- streams
@@ -96,27 +98,35 @@ pub record Origin : Type 0 where
 
 abbrev pub output_of_op : List Definition → Graph → ℕ → Op → Option Origin
 output_of_op unit g port op =
-    option_and_then (λ b. option_and_then (λ i. option_map (λ o. record { body = b; output = o }) (slice_get i.outputs port))
+    option_and_then (λ b. option_and_then (λ i. option_map
+    (λ o. record { body = b; output = o }) (slice_get i.outputs port))
     (slice_get b.composite.graph op.site.invocation)) (body_at unit g op.site.expansion)
 
 abbrev pub origin_of : List Definition → Graph → ℕ → Option Origin
-origin_of unit g s = option_and_then (λ stream. option_and_then (output_of_op unit g stream.port) (slice_get g.ops stream.maker)) (slice_get g.streams s)
+origin_of unit g s =
+    option_and_then (λ stream. option_and_then (output_of_op unit g stream.port) (slice_get g.ops stream.maker))
+    (slice_get g.streams s)
 
 -- the stream whose name is the shape of a stream
 abbrev pub stream_leads : List Definition → Graph → ℕ → List ℕ
-stream_leads unit g s = option_map_or (λ o. option_to_list (option_map (λ n. n.place) (named_stream unit o.body o.output.shape))) (origin_of unit g s) []
+stream_leads unit g s =
+    option_map_or (λ o. option_to_list (option_map (λ n. n.place) (named_stream unit o.body o.output.shape)))
+    (origin_of unit g s) []
 
 -- what a shape in a body means, by what streams are. A name of a stream whose type leads back to itself means nothing
 abbrev pub shape_attributes : (ℕ → Found Attributes) → List Definition → Graph → Body → Shape → Found Attributes
 shape_attributes streams unit g b shape =
-    option_map_or (λ n. if leads_back (length g.streams) (stream_leads unit g) n.place then unknown shape.at n.what else streams n.place)
-    (named_stream unit b shape) (after (shape_meant (composite_types unit b.composite) shape) (λ t. level_attributes shape.at (out-SplType t)))
+    option_map_or (λ n. if leads_back (length g.streams) (stream_leads unit g) n.place then unknown shape.at n.what
+    else streams n.place)
+    (named_stream unit b shape) (after (shape_meant (composite_types unit b.composite) shape) (λ t.
+    level_attributes shape.at (out-SplType t)))
 
 -- each stream of the graph is made somewhere. Names of streams are followed at most this number of times
 abbrev pub attributes_within : ℕ → List Definition → Graph → ℕ → Found Attributes
 attributes_within zero unit g s = mismatch 0
 attributes_within (suc count) unit g s =
-    option_map_or (λ o. shape_attributes (attributes_within count unit g) unit g o.body o.output.shape) (origin_of unit g s) (mismatch 0)
+    option_map_or (λ o. shape_attributes (attributes_within count unit g) unit g o.body o.output.shape)
+    (origin_of unit g s) (mismatch 0)
 
 -- the attributes of a stream
 abbrev pub stream_attributes : List Definition → Graph → ℕ → Found Attributes
@@ -127,14 +137,18 @@ stream_attributes unit g s = attributes_within (suc (length g.streams)) unit g s
 -- a shape has to mean these attributes
 abbrev pub shape_matches : List Definition → Graph → Body → Attributes → Shape → Passes
 shape_matches unit g b schema shape =
-    after (shape_attributes (stream_attributes unit g) unit g b shape) (λ given. if same_attributes given schema then passed else mismatch shape.at)
+    after (shape_attributes (stream_attributes unit g) unit g b shape) (λ given.
+    if same_attributes given schema then passed else mismatch shape.at)
 
 -- what is looked at for a port of a head: its shape, where it has one, has to mean these attributes, and then what
 -- `outside` looks at, at the invocation of the composite in the body around it
-abbrev pub head_port : (Body → Invocation → Passes) → List Definition → Graph → Attributes → Body → Option HeadPort → Passes
+abbrev pub head_port : (Body → Invocation → Passes) → List Definition → Graph → Attributes → Body → Option HeadPort
+    → Passes
 head_port outside unit g schema b port =
-    after (option_map_or (λ p. option_map_or (shape_matches unit g b schema) p.shape passed) port passed) (λ u. option_map_or
-    (λ s. option_map_or (λ o. option_map_or (outside o) (slice_get o.composite.graph s.invocation) passed) (body_at unit g s.expansion) passed)
+    after (option_map_or (λ p. option_map_or (shape_matches unit g b schema) p.shape passed) port passed) (λ u.
+    option_map_or
+    (λ s. option_map_or (λ o. option_map_or (outside o) (slice_get o.composite.graph s.invocation) passed)
+    (body_at unit g s.expansion) passed)
     b.expansion.site passed)
 
 -- ---- outputs of heads
@@ -145,8 +159,10 @@ abbrev pub output_heads : ℕ → List Definition → Graph → Attributes → B
 output_heads zero unit g schema b name = passed
 output_heads (suc count) unit g schema b name =
     option_map_or (λ k. head_port (λ o i. option_map_or
-    (λ q. after (shape_matches unit g o schema q.shape) (λ u. output_heads count unit g schema o q.name.what)) (slice_get i.outputs k) passed)
-    unit g schema b (slice_get b.composite.outputs k)) (place_of name (map (λ p. p.name.what) b.composite.outputs)) passed
+    (λ q. after (shape_matches unit g o schema q.shape) (λ u. output_heads count unit g schema o q.name.what))
+    (slice_get i.outputs k) passed)
+    unit g schema b (slice_get b.composite.outputs k))
+    (place_of name (map (λ p. p.name.what) b.composite.outputs)) passed
 
 -- ---- inputs of heads
 
@@ -160,7 +176,8 @@ abbrev pub input_heads : ℕ → List Definition → Graph → Attributes → Bo
 input_heads zero unit g schema b name = passed
 input_heads (suc count) unit g schema b name =
     option_map_or (λ place. passed) (place_of name (stream_names b.composite)) (option_map_or
-    (λ k. head_port (λ o i. option_map_or (λ q. each_name (input_heads count unit g schema o) q.streams) (slice_get i.inputs k) passed)
+    (λ k. head_port (λ o i. option_map_or (λ q. each_name (input_heads count unit g schema o) q.streams)
+    (slice_get i.inputs k) passed)
     unit g schema b (slice_get b.composite.inputs k)) (place_of name (input_names b.composite)) passed)
 
 -- ---- ports of operators
@@ -169,16 +186,19 @@ input_heads (suc count) unit g schema b name =
 abbrev pub taken_by : Body → List ℕ → Option ℕ → ℕ
 taken_by b name own =
     option_map_or (λ place. 1) own
-    (option_map_or (λ i. i.count) (option_and_then (slice_get b.expansion.inputs) (place_of name (input_names b.composite))) 0)
+    (option_map_or (λ i. i.count) (option_and_then (slice_get b.expansion.inputs)
+    (place_of name (input_names b.composite))) 0)
 
 -- for each stream of a port the place of the name by which it is taken
 abbrev pub name_places : Body → InputPort → List ℕ
-name_places b q = flat_map (λ n. replicate (taken_by b n.what (place_of n.what (stream_names b.composite))) n.at) q.streams
+name_places b q =
+    flat_map (λ n. replicate (taken_by b n.what (place_of n.what (stream_names b.composite))) n.at) q.streams
 
 -- the others have the attributes of the first
 abbrev pub are_alike : List Definition → Graph → Attributes → List ℕ → List ℕ → Passes
 are_alike unit g schema (at ∷ places) (s ∷ streams) =
-    after (stream_attributes unit g s) (λ own. if same_attributes own schema then are_alike unit g schema places streams else mismatch at)
+    after (stream_attributes unit g s) (λ own. if same_attributes own schema then are_alike unit g schema places streams
+    else mismatch at)
 are_alike unit g schema places streams = passed
 
 -- the attributes of a port: those of its first stream, which the others have too, and which each typed head on their
@@ -186,7 +206,8 @@ are_alike unit g schema places streams = passed
 abbrev pub port_attributes : List Definition → Graph → Body → InputPort → List ℕ → Found Attributes
 port_attributes unit g b q [] = mismatch 0
 port_attributes unit g b q (s ∷ streams) =
-    after (stream_attributes unit g s) (λ schema. after (are_alike unit g schema (drop 1 (name_places b q)) streams) (λ u.
+    after (stream_attributes unit g s) (λ schema.
+    after (are_alike unit g schema (drop 1 (name_places b q)) streams) (λ u.
     after (each_name (input_heads (length g.expansions) unit g schema b) q.streams) (λ v. Ok schema)))
 
 abbrev pub ports_attributes : List Definition → Graph → Body → List InputPort → List (List ℕ) → Found (List Attributes)
@@ -195,6 +216,7 @@ ports_attributes unit g b qs ins = each (λ p. port_attributes unit g b p.0 p.1)
 -- the attributes of an operator's outputs, with what the heads around it say of each
 abbrev pub outputs_attributes : List Definition → Graph → Body → List OutputStream → List ℕ → Found (List Attributes)
 outputs_attributes unit g b (o ∷ os) (s ∷ outs) =
-    after (stream_attributes unit g s) (λ schema. after (output_heads (length g.expansions) unit g schema b o.name.what) (λ u.
+    after (stream_attributes unit g s) (λ schema.
+    after (output_heads (length g.expansions) unit g schema b o.name.what) (λ u.
     after (outputs_attributes unit g b os outs) (λ rest. Ok (schema ∷ rest))))
 outputs_attributes unit g b os outs = Ok []

@@ -10,17 +10,20 @@ is_taken taken n = list_any (λ m. m == n) taken
 
 -- the streams that it takes are all made by operators that are taken
 abbrev pub is_ready : List Stream → List ℕ → Op → Bool
-is_ready streams taken op = list_all (λ s. option_map_or (λ x. is_taken taken x.maker) (slice_get streams s) false) (concat op.ins)
+is_ready streams taken op =
+    list_all (λ s. option_map_or (λ x. is_taken taken x.maker) (slice_get streams s) false) (concat op.ins)
 
 -- the first operator, of those from a number on, that is ready and not taken yet
 abbrev pub next_from : List Stream → List ℕ → ℕ → List Op → Option ℕ
 next_from streams taken n [] = None
-next_from streams taken n (op ∷ ops) = if not (is_taken taken n) && is_ready streams taken op then Some n else next_from streams taken (suc n) ops
+next_from streams taken n (op ∷ ops) =
+    if not (is_taken taken n) && is_ready streams taken op then Some n else next_from streams taken (suc n) ops
 
 -- one after another, at most this number of them
 abbrev pub taken_on : ℕ → List Stream → List Op → List ℕ → List ℕ
 taken_on zero streams ops taken = taken
-taken_on (suc count) streams ops taken = option_map_or (λ n. taken_on count streams ops (taken ++ n ∷ [])) (next_from streams taken 0 ops) taken
+taken_on (suc count) streams ops taken =
+    option_map_or (λ n. taken_on count streams ops (taken ++ n ∷ [])) (next_from streams taken 0 ops) taken
 
 abbrev pub taken : List Stream → List Op → List ℕ
 taken streams ops = taken_on (length ops) streams ops []

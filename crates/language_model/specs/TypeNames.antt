@@ -42,7 +42,8 @@ part_type t types = t.what t.at types
 abbrev pub attributes_type : Types → List (Attribute (Placed Written)) → Found (List (Named SplType))
 attributes_type types [] = Ok []
 attributes_type types (a ∷ rest) =
-    after (part_type a.kind types) (λ t. after (attributes_type types rest) (λ schema. Ok (record { name = a.name.what; kind = t } ∷ schema)))
+    after (part_type a.kind types) (λ t. after (attributes_type types rest) (λ schema.
+    Ok (record { name = a.name.what; kind = t } ∷ schema)))
 
 abbrev pub tuple_type : Found (List (Named SplType)) → Found SplType
 tuple_type found = after found (λ schema. Ok (S.Tuple schema))
@@ -54,7 +55,8 @@ level_type (Y.Int kind) at types = Ok (S.Int kind)
 level_type (Y.LeftOut word) at types = refused E.LeftOut at (Some (keyword_word (W.LeftOut word)))
 level_type (Y.Name name) at types = types at name
 level_type (Y.List t) at types = after (part_type t types) (λ element. Ok (S.List element))
-level_type (Y.Map k t) at types = after (part_type k types) (λ key. after (part_type t types) (λ value. Ok (S.Map key value)))
+level_type (Y.Map k t) at types =
+    after (part_type k types) (λ key. after (part_type t types) (λ value. Ok (S.Map key value)))
 level_type (Y.Tuple attributes) at types = tuple_type (attributes_type types attributes)
 
 abbrev pub written : TypeExpr → Placed Written
@@ -108,8 +110,10 @@ leads_to definitions place = option_map_or (λ d. filter_map (λ name.
 -- nothing. Definitions are followed at most this number of times
 abbrev pub types_within : ℕ → List TypeDefinition → Types → Types
 types_within zero definitions outside at name = unknown at name
-types_within (suc count) definitions outside at name = option_map_or (λ d. if leads_back (length definitions) (leads_to definitions) d.place
-    then unknown at name else shape_meant (types_within count definitions outside) d.what.shape) (definition_of definitions name) (outside at name)
+types_within (suc count) definitions outside at name =
+    option_map_or (λ d. if leads_back (length definitions) (leads_to definitions) d.place
+    then unknown at name else shape_meant (types_within count definitions outside) d.what.shape)
+    (definition_of definitions name) (outside at name)
 
 -- what names mean where these are defined. A row of definitions none of which leads back to itself is no longer than
 -- there are

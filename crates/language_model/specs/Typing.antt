@@ -132,7 +132,8 @@ meant_typed at name Nothing = unknown at name
 
 -- a number, which has to be one of its type. Each that is read from text is
 abbrev pub number_typed : ℕ → Number → Found Typed
-number_typed at n = if nat_lt n.value (top n.kind) then Ok (typed (S.Int n.kind) (C.Literal (V.Int (pos n.value)))) else mismatch at
+number_typed at n =
+    if nat_lt n.value (top n.kind) then Ok (typed (S.Int n.kind) (C.Literal (V.Int (pos n.value)))) else mismatch at
 
 -- ---- literals that take the wanted type
 
@@ -169,9 +170,11 @@ list_typed at scope Another es = mismatch at
 list_typed at scope (This t) es = after (elements_typed scope t es) (λ xs. Ok (typed (S.List t) (C.List xs)))
 list_typed at scope Anything [] = mismatch at
 list_typed at scope Anything (e ∷ es) =
-    after (part_typed e scope None) (λ x. after (elements_typed scope x.kind es) (λ xs. Ok (typed (S.List x.kind) (C.List (x.code ∷ xs)))))
+    after (part_typed e scope None) (λ x. after (elements_typed scope x.kind es) (λ xs.
+    Ok (typed (S.List x.kind) (C.List (x.code ∷ xs)))))
 
-abbrev pub entries_typed : Scope → SplType → SplType → List (Placed Part × Placed Part) → Found (List (Code Slot × Code Slot))
+abbrev pub entries_typed : Scope → SplType → SplType → List (Placed Part × Placed Part)
+    → Found (List (Code Slot × Code Slot))
 entries_typed scope k t [] = Ok []
 entries_typed scope k t (e ∷ es) =
     after (part_typed e.0 scope (Some k)) (λ x. after (part_typed e.1 scope (Some t)) (λ y.
@@ -183,7 +186,8 @@ map_typed at scope (This p) es = after (entries_typed scope p.0 p.1 es) (λ xs. 
 map_typed at scope Anything [] = mismatch at
 map_typed at scope Anything (e ∷ es) =
     after (part_typed e.0 scope None) (λ x. after (part_typed e.1 scope None) (λ y.
-    after (entries_typed scope x.kind y.kind es) (λ xs. Ok (typed (S.Map x.kind y.kind) (C.Map ((x.code, y.code) ∷ xs))))))
+    after (entries_typed scope x.kind y.kind es) (λ xs.
+    Ok (typed (S.Map x.kind y.kind) (C.Map ((x.code, y.code) ∷ xs))))))
 
 -- no two fields have one name
 abbrev pub are_distinct : List (Field (Placed Part)) → Bool
@@ -192,7 +196,8 @@ are_distinct (f ∷ fs) = list_all (λ g. not (bytes_eq g.name.what f.name.what)
 
 -- each wanted attribute has one field, and no other has one; attributes have names of their own
 abbrev pub gives_each : List (Named SplType) → List (Field (Placed Part)) → Bool
-gives_each schema fs = are_distinct fs && list_all (λ f. is_some (attribute_of schema f.name.what)) fs && (length fs == length schema)
+gives_each schema fs =
+    are_distinct fs && list_all (λ f. is_some (attribute_of schema f.name.what)) fs && (length fs == length schema)
 
 -- a field is of the type of the attribute of its name
 abbrev pub fields_typed : Scope → List (Named SplType) → List (Field (Placed Part)) → Found (List (ℕ × Code Slot))
@@ -210,9 +215,11 @@ own_fields scope i (f ∷ fs) =
 abbrev pub tuple_typed : ℕ → Scope → Wants (List (Named SplType)) → List (Field (Placed Part)) → Found Typed
 tuple_typed at scope Another fs = mismatch at
 tuple_typed at scope (This schema) fs =
-    if gives_each schema fs then after (fields_typed scope schema fs) (λ xs. Ok (typed (S.Tuple schema) (C.Tuple xs))) else mismatch at
+    if gives_each schema fs then after (fields_typed scope schema fs) (λ xs. Ok (typed (S.Tuple schema) (C.Tuple xs)))
+    else mismatch at
 tuple_typed at scope Anything fs =
-    if are_distinct fs then after (own_fields scope 0 fs) (λ xs. Ok (typed (S.Tuple xs.0) (C.Tuple xs.1))) else mismatch at
+    if are_distinct fs then after (own_fields scope 0 fs) (λ xs. Ok (typed (S.Tuple xs.0) (C.Tuple xs.1)))
+    else mismatch at
 
 -- ---- what is taken of a value
 
@@ -226,7 +233,8 @@ abbrev pub level_step : ℕ → Scope → SplType-F SplType → Step (Placed Par
 level_step base scope (T.Tuple schema) (N.Member m) =
     option_map_or (λ a. Ok (K.Member a.place, a.what.kind)) (attribute_of schema m.what) (unknown m.at m.what)
 level_step base scope (T.List t) (N.Index e) =
-    after (part_typed e scope None) (λ x. after (level_index e.at x.code (out-SplType x.kind)) (λ code. Ok (K.Element code, t)))
+    after (part_typed e scope None) (λ x. after (level_index e.at x.code (out-SplType x.kind)) (λ code.
+    Ok (K.Element code, t)))
 level_step base scope (T.Map k t) (N.Index e) = after (part_typed e scope (Some k)) (λ x. Ok (K.AtKey x.code, t))
 level_step base scope _ _ = mismatch base
 
@@ -234,7 +242,8 @@ level_step base scope _ _ = mismatch base
 abbrev pub steps_typed : ℕ → Scope → SplType → List (Step (Placed Part)) → Found (List (Selector (Code Slot)) × SplType)
 steps_typed base scope t [] = Ok ([], t)
 steps_typed base scope t (s ∷ ss) =
-    after (level_step base scope (out-SplType t) s) (λ x. after (steps_typed base scope x.1 ss) (λ xs. Ok (x.0 ∷ xs.0, xs.1)))
+    after (level_step base scope (out-SplType t) s) (λ x.
+    after (steps_typed base scope x.1 ss) (λ xs. Ok (x.0 ∷ xs.0, xs.1)))
 
 -- what is taken of a code, where something is
 abbrev pub selected : Code Slot → List (Selector (Code Slot)) → Code Slot
@@ -242,12 +251,14 @@ selected base [] = base
 selected base (x ∷ xs) = C.Select base (x ∷ xs)
 
 abbrev pub select_typed : ℕ → Scope → Typed → List (Step (Placed Part)) → Found Typed
-select_typed base scope x steps = after (steps_typed base scope x.kind steps) (λ xs. Ok (typed xs.1 (selected x.code xs.0)))
+select_typed base scope x steps =
+    after (steps_typed base scope x.kind steps) (λ xs. Ok (typed xs.1 (selected x.code xs.0)))
 
 -- of a base with this meaning; an attribute of a port that is named, `Port.attribute`, has the code of the attribute
 abbrev pub of_port : Meant → Placed Part → Scope → List (Step (Placed Part)) → Found Typed
 of_port (OfPort p) base scope (N.Member m ∷ steps) =
-    after (option_map_or (λ a. Ok (typed a.what.kind (C.Name (L.Attribute p.place a.place)))) (attribute_of p.what.schema m.what) (unknown m.at m.what))
+    after (option_map_or (λ a. Ok (typed a.what.kind (C.Name (L.Attribute p.place a.place))))
+    (attribute_of p.what.schema m.what) (unknown m.at m.what))
     (λ x. select_typed base.at scope x steps)
 of_port _ base scope steps = after (part_typed base scope None) (λ x. select_typed base.at scope x steps)
 
@@ -272,7 +283,8 @@ prefixes_at (p ∷ ps) operand = p.at
 abbrev pub prefixes_typed : List (Placed PrefixOperator) → ℕ → SplType → Found (List UnaryCode × SplType)
 prefixes_typed [] operand t = Ok ([], t)
 prefixes_typed (p ∷ ps) operand t = after (prefixes_typed ps operand t) (λ xs.
-    after (option_map_or (λ x. Ok x) (level_prefix p.what (out-SplType xs.1)) (mismatch (prefixes_at ps operand))) (λ x. Ok (x.0 ∷ xs.0, x.1)))
+    after (option_map_or (λ x. Ok x) (level_prefix p.what (out-SplType xs.1)) (mismatch (prefixes_at ps operand))) (λ x.
+    Ok (x.0 ∷ xs.0, x.1)))
 
 -- ---- operators between two operands
 
@@ -305,23 +317,28 @@ level_operator B.NotEqual _ = Some (D.NotEqual, S.Bool)
 level_operator B.And T.Bool = Some (D.And, S.Bool)
 level_operator B.Or T.Bool = Some (D.Or, S.Bool)
 level_operator B.Add T.Text = Some (D.Join, S.Text)
-level_operator op (T.Int k) = option_or (option_map (λ o. (D.Integers o k, S.Int k)) (integer_operator op)) (ordering op)
+level_operator op (T.Int k) =
+    option_or (option_map (λ o. (D.Integers o k, S.Int k)) (integer_operator op)) (ordering op)
 level_operator op T.Text = ordering op
 level_operator _ _ = None
 
 abbrev pub operands_typed : Scope → Typed → Placed Part → Placed Part → Option (BinaryCode × SplType) → Found Typed
 operands_typed scope x left right on =
-    option_map_or (λ op. after (part_typed right scope (Some x.kind)) (λ y. Ok (typed op.1 (C.Binary op.0 x.code y.code)))) on (mismatch left.at)
+    option_map_or (λ op. after (part_typed right scope (Some x.kind))
+    (λ y. Ok (typed op.1 (C.Binary op.0 x.code y.code)))) on (mismatch left.at)
 
 -- a value is looked for in a list of its type, or in a map with keys of its type
 abbrev pub level_in : Typed → Code Slot → ℕ → SplType-F SplType → Found Typed
-level_in x right at (T.List t) = if same_types x.kind t then Ok (typed S.Bool (C.Binary D.InList x.code right)) else mismatch at
-level_in x right at (T.Map k t) = if same_types x.kind k then Ok (typed S.Bool (C.Binary D.InMap x.code right)) else mismatch at
+level_in x right at (T.List t) =
+    if same_types x.kind t then Ok (typed S.Bool (C.Binary D.InList x.code right)) else mismatch at
+level_in x right at (T.Map k t) =
+    if same_types x.kind k then Ok (typed S.Bool (C.Binary D.InMap x.code right)) else mismatch at
 level_in x right at _ = mismatch at
 
 abbrev pub binary_typed : Scope → BinaryOperator → Placed Part → Placed Part → Found Typed
 binary_typed scope B.In left right =
-    after (part_typed left scope None) (λ x. after (part_typed right scope None) (λ y. level_in x y.code right.at (out-SplType y.kind)))
+    after (part_typed left scope None) (λ x. after (part_typed right scope None) (λ y.
+    level_in x y.code right.at (out-SplType y.kind)))
 binary_typed scope op left right =
     after (part_typed left scope None) (λ x. operands_typed scope x left right (level_operator op (out-SplType x.kind)))
 
@@ -337,7 +354,8 @@ marker_asked _ _ _ = None
 abbrev pub conditional_typed : Scope → Wanted → Placed Part → Placed Part → Placed Part → Found Typed
 conditional_typed scope wanted c a b =
     after (part_typed c scope (Some S.Bool)) (λ x. after (part_typed a scope wanted) (λ y.
-    after (part_typed b scope (option_or wanted (Some y.kind))) (λ z. Ok (typed y.kind (C.Conditional x.code y.code z.code)))))
+    after (part_typed b scope (option_or wanted (Some y.kind))) (λ z.
+    Ok (typed y.kind (C.Conditional x.code y.code z.code)))))
 
 -- ---- calls
 
@@ -352,7 +370,8 @@ not_callable at name refusal = option_map_or (λ r. Err r) refusal (unknown at n
 -- a call of a function gives a value of its type, or nothing
 abbrev pub function_typed : ℕ → Scope → List ℕ → List (Placed Part) → Option (At Signature) → Found Typed
 function_typed at scope name es found = option_map_or (λ f. if length es == length f.what.parameters
-    then after (arguments_typed scope f.what.parameters es) (λ xs. option_map_or (λ t. Ok (typed t (C.Call f.place xs))) f.what.result (mismatch at))
+    then after (arguments_typed scope f.what.parameters es) (λ xs.
+    option_map_or (λ t. Ok (typed t (C.Call f.place xs))) f.what.result (mismatch at))
     else wrong_call at) found (not_callable at name (unresolved_of scope name))
 
 -- what a table gives for a word, or `d` where the word isn't in it
@@ -363,9 +382,12 @@ looked_up d (x ∷ xs) word = if bytes_eq word x.0 then x.1 else looked_up d xs 
 -- the call that has this name
 abbrev pub call_of : List ℕ → Option CallName
 call_of name =
-    looked_up None ((codes "length", Some A.Length) ∷ (codes "size", Some A.Size) ∷ (codes "has", Some A.Has) ∷ (codes "appendM", Some A.AppendM)
-    ∷ (codes "removeM", Some A.RemoveM) ∷ (codes "clearM", Some A.ClearM) ∷ (codes "abs", Some A.Abs) ∷ (codes "min", Some A.Min)
-    ∷ (codes "max", Some A.Max) ∷ (codes "substring", Some A.Substring) ∷ (codes "currentPunct", Some A.CurrentPunct) ∷ []) name
+    looked_up None ((codes "length", Some A.Length) ∷ (codes "size", Some A.Size)
+    ∷ (codes "has", Some A.Has) ∷ (codes "appendM", Some A.AppendM)
+    ∷ (codes "removeM", Some A.RemoveM) ∷ (codes "clearM", Some A.ClearM)
+    ∷ (codes "abs", Some A.Abs) ∷ (codes "min", Some A.Min)
+    ∷ (codes "max", Some A.Max) ∷ (codes "substring", Some A.Substring)
+    ∷ (codes "currentPunct", Some A.CurrentPunct) ∷ []) name
 
 abbrev pub int32 : SplType
 int32 = S.Int I32
@@ -399,11 +421,14 @@ is_mutable scope name = option_map_or (λ v. v.what.mutable) (variable_of scope 
 
 -- the argument is a place, and its variable may be changed
 abbrev pub if_mutable : {A : Type 0} → ℕ → Scope → Placed Part → Option (List ℕ) → Found A → Found A
-if_mutable at scope e root found = option_map_or (λ name. if is_mutable scope name then found else refused E.NotMutable e.at None) root (wrong_call at)
+if_mutable at scope e root found =
+    option_map_or (λ name. if is_mutable scope name then found else refused E.NotMutable e.at None) root (wrong_call at)
 
-abbrev pub changed_typed : ℕ → Scope → Placed Part → List (Placed Part) → Option (List SplType) → Found (List (Code Slot))
+abbrev pub changed_typed : ℕ → Scope → Placed Part → List (Placed Part) → Option (List SplType)
+    → Found (List (Code Slot))
 changed_typed at scope e es wanted =
-    option_map_or (λ types. if_mutable at scope e (root_of e.what.0) (arguments_typed scope types es)) wanted (wrong_call at)
+    option_map_or (λ types. if_mutable at scope e (root_of e.what.0) (arguments_typed scope types es)) wanted
+    (wrong_call at)
 
 -- how many arguments a call has
 abbrev pub argument_count : CallName → ℕ
@@ -443,7 +468,8 @@ arguments_of at scope call (e ∷ es) =
 arguments_of at scope call [] = wrong_call at
 
 abbrev pub built_in_typed : ℕ → Scope → CallName → List (Placed Part) → Found Typed
-built_in_typed at scope call es = if length es == argument_count call then arguments_of at scope call es else wrong_call at
+built_in_typed at scope call es =
+    if length es == argument_count call then arguments_of at scope call es else wrong_call at
 
 -- ---- expressions
 
@@ -460,7 +486,8 @@ level_typed (X.List es) at scope wanted = list_typed at scope (wants level_eleme
 level_typed (X.Map es) at scope wanted = map_typed at scope (wants level_pair wanted) es
 level_typed (X.Tuple fs) at scope wanted = tuple_typed at scope (wants level_schema wanted) fs
 level_typed (X.Call name es) at scope wanted =
-    after (option_map_or (λ call. built_in_typed at scope call es) (call_of name) (function_typed at scope name es (function_of scope name)))
+    after (option_map_or (λ call. built_in_typed at scope call es) (call_of name)
+    (function_typed at scope name es (function_of scope name)))
     (as_wanted at wanted)
 level_typed (X.Select base steps) at scope wanted =
     after (of_port (option_map_or (meant scope) (name_of base.what.0) Nothing) base scope steps) (as_wanted at wanted)
@@ -468,7 +495,8 @@ level_typed (X.Unary ps e) at scope wanted =
     after (after (part_typed e scope None) (λ x. after (prefixes_typed ps e.at x.kind) (λ xs.
     Ok (typed xs.1 (C.Unary xs.0 x.code))))) (as_wanted at wanted)
 level_typed (X.Binary op left right) at scope wanted =
-    after (option_map_or (λ code. Ok (typed S.Bool code)) (marker_asked (scope.punct && asks_punct left.what.0) op (named_marker right.what.0))
+    after (option_map_or (λ code. Ok (typed S.Bool code))
+    (marker_asked (scope.punct && asks_punct left.what.0) op (named_marker right.what.0))
     (binary_typed scope op left right)) (as_wanted at wanted)
 level_typed (X.Conditional c a b) at scope wanted = conditional_typed scope wanted c a b
 

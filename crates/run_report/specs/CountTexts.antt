@@ -10,7 +10,8 @@ use Rattle.run_report.specs.Texts.{operator_name}
 -- the line of a channel: how many items the splitter of its region sent to it
 abbrev pub channel_text : ChannelCount → List ℕ
 channel_text n =
-    codes "region " ++ decimal n.region ++ codes " channel " ++ decimal n.channel ++ codes " events " ++ decimal n.events ++ codes "\n"
+    codes "region " ++ decimal n.region ++ codes " channel " ++ decimal n.channel
+    ++ codes " events " ++ decimal n.events ++ codes "\n"
 
 -- the line of a sink: how many tuples it wrote
 abbrev pub sink_line : CheckedGraph → SinkCount → List ℕ

@@ -35,7 +35,8 @@ attribute_name schema place = option_map_or (λ attribute. attribute.name) (slic
 -- the names of a key's attributes, with a comma between them; a hyphen where there is no key
 abbrev pub key_text : Attributes → List ℕ → List ℕ
 key_text schema [] = codes "-"
-key_text schema (place ∷ places) = attribute_name schema place ++ flat_map (λ later. codes "," ++ attribute_name schema later) places
+key_text schema (place ∷ places) =
+    attribute_name schema place ++ flat_map (λ later. codes "," ++ attribute_name schema later) places
 
 -- the line of a region with this number: its merge, its key, and its operators
 abbrev pub region_text : CheckedGraph → ℕ → Region → List ℕ
@@ -63,7 +64,8 @@ stands_in n region = list_any (λ m. m == n) region.ops
 -- Any other operator has a line of its own
 abbrev pub operator_text : CheckedGraph → List Region → ℕ → List ℕ
 operator_text c plan n =
-    if list_any (stands_in n) plan then begun_text c n 0 plan else codes "single " ++ operator_name (Some c) n ++ codes "\n"
+    if list_any (stands_in n) plan then begun_text c n 0 plan
+    else codes "single " ++ operator_name (Some c) n ++ codes "\n"
 
 -- ---- a plan
 

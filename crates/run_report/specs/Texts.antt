@@ -16,7 +16,8 @@ use Rattle.run_report.specs.declared.cause.Cause.TheVariants as W
 abbrev pub refusal_text : Refusal → List ℕ
 refusal_text refusal =
     codes "refused " ++ (told_code refusal.code).0 ++ codes " at " ++ decimal refusal.at
-    ++ option_map_or (λ name. codes " " ++ name) (if (told_code refusal.code).1 then refusal.name else None) [] ++ codes "\n"
+    ++ option_map_or (λ name. codes " " ++ name) (if (told_code refusal.code).1 then refusal.name else None) []
+    ++ codes "\n"
 
 -- ---- faults
 
@@ -68,4 +69,6 @@ status_text c W.NoMemory = codes "no memory\n"
 -- ---- what was checked
 
 abbrev pub check_text : CheckedGraph → List ℕ
-check_text c = codes "ok " ++ decimal (length c.graph.ops) ++ codes " operators " ++ decimal (length c.graph.streams) ++ codes " streams\n"
+check_text c =
+    codes "ok " ++ decimal (length c.graph.ops) ++ codes " operators "
+    ++ decimal (length c.graph.streams) ++ codes " streams\n"

@@ -35,7 +35,9 @@ ReadsCounted g rows counts now = (n : ℕ) (op : Operator) (file : List ℕ) (st
 
 -- a source's faults name it
 abbrev pub FaultsNameSources : Graph → List (List Item) → Type 0
-FaultsNameSources g rows = (n : ℕ) (op : Operator) (file : List ℕ) (strict : Bool) → slice_get g.ops n ≡ Some op → op.clauses ≡ A.FileSource file strict
+FaultsNameSources g rows =
+    (n : ℕ) (op : Operator) (file : List ℕ) (strict : Bool)
+    → slice_get g.ops n ≡ Some op → op.clauses ≡ A.FileSource file strict
     → All (NamesOperator op.number) (rows_at rows n)
 
 -- the rows of all operators: those of a source fit, and are what the shelf tells of its file
@@ -62,4 +64,5 @@ is_failed S.Failed = true
 
 -- a count of reading changes only at a file whose reader fails in the end
 abbrev pub ReadsFail : PerName → PerName → Told → Type 0
-ReadsFail counts now told = (n : List ℕ) → (now n).reading ≢ (counts n).reading → is_failed (told.script n).ending ≡ true
+ReadsFail counts now told =
+    (n : List ℕ) → (now n).reading ≢ (counts n).reading → is_failed (told.script n).ending ≡ true

@@ -64,7 +64,8 @@ HoldsText m new op file = new.holds file ≡ Some (sink_text m op)
 
 -- the file is as it was, or holds a prefix of the sink's text
 abbrev pub HoldsPrefix : Meaning → Told → Told → Operator → List ℕ → Type 0
-HoldsPrefix m old new op file = (new.holds file ≡ old.holds file) ⊎ ((n : ℕ) × (new.holds file ≡ Some (take n (sink_text m op))))
+HoldsPrefix m old new op file =
+    (new.holds file ≡ old.holds file) ⊎ ((n : ℕ) × (new.holds file ≡ Some (take n (sink_text m op))))
 
 -- The run of this graph with this meaning was carried out: each sink's file holds its text, the counts are the meaning's, and the record
 -- is the run's.
@@ -79,7 +80,8 @@ SameFiles old new = (n : List ℕ) → new.holds n ≡ old.holds n
 -- a graph whose run has this fault, or none, was carried out
 abbrev pub RunsTo : Option Fault → (RequestOutcome → Type 0) → Ended → Told → Type 0
 RunsTo fault Is ended new =
-    (c : CheckedGraph) × (g : Graph) × (m : Meaning) × Is (Runs c g m) × (run_fault g m ≡ fault) × CarriedOut g m ended new
+    (c : CheckedGraph) × (g : Graph) × (m : Meaning) × Is (Runs c g m)
+    × (run_fault g m ≡ fault) × CarriedOut g m ended new
 
 -- nothing was counted
 abbrev pub uncounted : Counts
@@ -87,7 +89,8 @@ uncounted = record { channels = []; sinks = [] }
 
 -- a program was checked to be told of, no file changed, and nothing was counted
 abbrev pub ReportsTo : (RequestOutcome → Type 0) → Ended → Told → Told → Type 0
-ReportsTo Is ended old new = (report : Report) × (c : CheckedGraph) × Is (Reports report c) × SameFiles old new × (ended.counts ≡ uncounted)
+ReportsTo Is ended old new =
+    (report : Report) × (c : CheckedGraph) × Is (Reports report c) × SameFiles old new × (ended.counts ≡ uncounted)
 
 -- ---- what each answer means
 
@@ -116,7 +119,8 @@ pub record IsRecordSoFar (g : Graph) (m : Meaning) (arrivals : Arrivals) : Type 
 
 -- A run of the graph had this meaning: that for closed rows of its sources, which they name in their faults and of which a
 -- read that failed was counted, under a record of which this is known.
-pub record RanUnder (Recorded : Type 0) (c : CheckedGraph) (g : Graph) (m : Meaning) (arrivals : Arrivals) (counts now : PerName) : Type 0 where
+pub record RanUnder (Recorded : Type 0) (c : CheckedGraph) (g : Graph) (m : Meaning)
+    (arrivals : Arrivals) (counts now : PerName) : Type 0 where
   pub graph : graph_of c ≡ g
   pub rows : List (List Item)
   pub fit : RowsFit g rows
@@ -130,7 +134,8 @@ abbrev pub RanTo : CheckedGraph → Graph → Meaning → Arrivals → PerName �
 RanTo c g m arrivals counts now = RanUnder (IsRecordOf g m arrivals) c g m arrivals counts now
 
 -- some run of such a program, under a record of which this is known
-abbrev pub RanWith : (Graph → Meaning → Arrivals → Type 0) → (CheckedGraph → Type 0) → Ended → (counts now : PerName) → Type 0
+abbrev pub RanWith : (Graph → Meaning → Arrivals → Type 0) → (CheckedGraph → Type 0) → Ended → (counts now : PerName)
+    → Type 0
 RanWith Recorded Program ended counts now =
     (c : CheckedGraph) × (g : Graph) × (m : Meaning) × Program c
     × RanUnder (Recorded g m ended.arrivals) c g m ended.arrivals counts now
@@ -149,7 +154,8 @@ pub record Uncreated (name : List ℕ) (P : CheckedGraph → Type 0) (ended : En
 -- which ended with this fault, or none, and with its counts
 abbrev pub RanAs : Option Fault → (CheckedGraph → Type 0) → Ended → PerName → PerName → Type 0
 RanAs fault Program ended counts now =
-    (c : CheckedGraph) × (g : Graph) × (m : Meaning) × Program c × RanTo c g m ended.arrivals counts now × (run_fault g m ≡ fault) × (ended.counts ≡ counts_of g m)
+    (c : CheckedGraph) × (g : Graph) × (m : Meaning) × Program c × RanTo c g m ended.arrivals counts now
+    × (run_fault g m ≡ fault) × (ended.counts ≡ counts_of g m)
 
 -- no run began: nothing was counted, and no input recorded
 pub record NothingRan (ended : Ended) : Type 0 where
@@ -201,7 +207,8 @@ pub record WritingFailed (files : FilesOf) (name : List ℕ) (old new : PerName)
 -- ---- and what the files hold then
 
 -- A file that is created couldn't be: the request runs a graph, those before it are empty, and the others as they were.
-pub record StoppedCreating (Is : RequestOutcome → Type 0) (files : FilesOf) (name : List ℕ) (counts now : PerName) (old new : Told) : Type 0 where
+pub record StoppedCreating (Is : RequestOutcome → Type 0) (files : FilesOf)
+    (name : List ℕ) (counts now : PerName) (old new : Told) : Type 0 where
   pub failed : CreatingFailed files name counts now
   pub empty : All (λ n. new.holds n ≡ Some []) failed.before
   pub others : (n : List ℕ) → is_named failed.before n ≡ false → new.holds n ≡ old.holds n
@@ -210,7 +217,8 @@ pub record StoppedCreating (Is : RequestOutcome → Type 0) (files : FilesOf) (n
 -- the file holds the sink's text, and nothing was counted of it; or its count of writing rose, and it holds a prefix
 abbrev pub HoldsUnlessFailed : Meaning → PerName → PerName → Told → Operator → List ℕ → Type 0
 HoldsUnlessFailed m counts now new op file =
-    ((now file ≡ counts file) × HoldsText m new op file) ⊎ (Rose (counts file).writing (now file).writing × ((n : ℕ) × (new.holds file ≡ Some (take n (sink_text m op)))))
+    ((now file ≡ counts file) × HoldsText m new op file)
+    ⊎ (Rose (counts file).writing (now file).writing × ((n : ℕ) × (new.holds file ≡ Some (take n (sink_text m op)))))
 
 -- The run of a graph ended, but some file that it created wasn't written or finished. The sinks' files of which nothing was counted hold their texts.
 abbrev pub WroteOthers : (RequestOutcome → Type 0) → PerName → PerName → Ended → Told → Type 0
@@ -244,12 +252,16 @@ ComesBehind (Some request) name Is =
 
 -- Some file couldn't be written, the first of which has this name. That of the record is empty where it is a sink's; it holds a prefix of its
 -- text, and the sinks' files hold theirs, where it is this one; and its text, where the name is that of standard output.
-pub data RecordUnwritten (name : List ℕ) (parts : List CheckedClauses) (file text : List ℕ) (counts now : PerName) (TextFailed Sinks : Type 0) (new : Told) : Type 0 where
-  of_sink : is_named (sink_files parts) name ≡ true → Rose (counts name).writing (now name).writing → new.holds file ≡ Some []
+pub data RecordUnwritten (name : List ℕ) (parts : List CheckedClauses) (file text : List ℕ)
+    (counts now : PerName) (TextFailed Sinks : Type 0) (new : Told) : Type 0 where
+  of_sink : is_named (sink_files parts) name ≡ true → Rose (counts name).writing (now name).writing
+      → new.holds file ≡ Some []
       → RecordUnwritten name parts file text counts now TextFailed Sinks new
-  of_record : name ≡ file → Rose (counts file).writing (now file).writing → Sinks → (n : ℕ) → new.holds file ≡ Some (take n text)
+  of_record : name ≡ file → Rose (counts file).writing (now file).writing → Sinks → (n : ℕ)
+      → new.holds file ≡ Some (take n text)
       → RecordUnwritten name parts file text counts now TextFailed Sinks new
-  of_telling : name ≡ codes "-" → TextFailed → ((n : List ℕ) → (now n).writing ≡ (counts n).writing) → Sinks → new.holds file ≡ Some text
+  of_telling : name ≡ codes "-" → TextFailed → ((n : List ℕ) → (now n).writing ≡ (counts n).writing) → Sinks
+      → new.holds file ≡ Some text
       → RecordUnwritten name parts file text counts now TextFailed Sinks new
 
 -- ---- the causes
@@ -403,12 +415,15 @@ WholeReads cause files counts now old =
 
 -- one of these files, which are read as a whole, couldn't be opened or read, or memory ran out
 abbrev pub IsUnread : List (List ℕ) → Cause → Type 0
-IsUnread whole cause = (cause ≡ C.NoMemory) ⊎ ((name : List ℕ) × (is_named whole name ≡ true) × ((cause ≡ C.OpenFailed name) ⊎ (cause ≡ C.ReadFailed name)))
+IsUnread whole cause =
+    (cause ≡ C.NoMemory) ⊎ ((name : List ℕ) × (is_named whole name ≡ true)
+    × ((cause ≡ C.OpenFailed name) ⊎ (cause ≡ C.ReadFailed name)))
 
 -- a replay whose record can't be read ends by that, or since its program can't be read or is refused
 abbrev pub NeedsRecord : Option Request → Ended → Told → Type 0
 NeedsRecord (Some (R.Replay program file)) ended old =
-    has_record_fault (old.script file) ≡ true → ((refusal : Refusal) × (ended.cause ≡ C.Refused refusal)) ⊎ IsUnread (program ∷ file ∷ []) ended.cause
+    has_record_fault (old.script file) ≡ true → ((refusal : Refusal) × (ended.cause ≡ C.Refused refusal))
+    ⊎ IsUnread (program ∷ file ∷ []) ended.cause
 NeedsRecord _ ended old = ⊤
 
 -- a replay returns the record that its file spells for its program
@@ -419,7 +434,8 @@ FollowsRecord (Some (R.Replay program file)) Is ended old new =
 FollowsRecord _ Is ended old new = ⊤
 
 -- a run that is asked for its record writes the one that it returns
-abbrev pub WritesRecord : Option Request → (RequestOutcome → Type 0) → Ended → PerName → PerName → Type 0 → Told → Told → Type 0
+abbrev pub WritesRecord : Option Request → (RequestOutcome → Type 0) → Ended → PerName → PerName → Type 0 → Told → Told
+    → Type 0
 WritesRecord (Some (R.Run program options)) Is ended counts now TextFailed old new =
     (file : List ℕ) → options.arrivals ≡ Some file → (c : CheckedGraph) (g : Graph) (m : Meaning) → Is (Runs c g m)
     → (rows_of ended.cause).holds c.parts file (arrivals_text c ended.arrivals) counts now TextFailed
@@ -431,14 +447,19 @@ abbrev pub ForFiles : Told → Option Request → (FilesOf → Type 0) → Type 
 ForFiles told request P = (parts : List CheckedClauses) → ArePartsIn told request parts → P (files_of request parts)
 
 -- the answer to a request at a shelf that tells its files, where the count of the text's pour rose or not
-pub record Answered (request : Option Request) (ended : Ended) (counts now : PerName) (TextFailed : Type 0) (old new : Told) : Type 0 where
+pub record Answered (request : Option Request) (ended : Ended) (counts now : PerName)
+    (TextFailed : Type 0) (old new : Told) : Type 0 where
   pub means : (rows_of ended.cause).means (IsOutcome old ended.arrivals request) ended old new
-  pub others : ForFiles old request (λ files. (n : List ℕ) → is_named files.created n ≡ false → new.holds n ≡ old.holds n)
-  pub scripts : ForFiles old request (λ files. (n : List ℕ) → is_named files.created n ≡ false → new.script n ≡ old.script n)
-  pub counted : ForFiles old request (λ files. (n : List ℕ) → (is_named files.opened n || is_named files.created n) ≡ false → now n ≡ counts n)
+  pub others : ForFiles old request
+      (λ files. (n : List ℕ) → is_named files.created n ≡ false → new.holds n ≡ old.holds n)
+  pub scripts : ForFiles old request
+      (λ files. (n : List ℕ) → is_named files.created n ≡ false → new.script n ≡ old.script n)
+  pub counted : ForFiles old request
+      (λ files. (n : List ℕ) → (is_named files.opened n || is_named files.created n) ≡ false → now n ≡ counts n)
   pub device : ForFiles old request (λ files.
       (rows_of ended.cause).device files counts now TextFailed (IsOutcome old ended.arrivals request) ended old new)
-  pub stopped : (parts : List CheckedClauses) → ArePartsIn old request parts → (rows_of ended.cause).stopped parts counts now
+  pub stopped : (parts : List CheckedClauses) → ArePartsIn old request parts
+      → (rows_of ended.cause).stopped parts counts now
   pub whole : ForFiles old request (λ files. WholeReads ended.cause files counts now old)
   pub reads : ReadsFail counts now old
   pub needed : NeedsRecord request ended old
@@ -450,10 +471,14 @@ pub record Answered (request : Option Request) (ended : Ended) (counts now : Per
 
 -- a count rose of opening a file that is opened, of reading one that is read as a whole, or of creating or writing one that is created
 pub data DeviceFailed (files : FilesOf) (old new : PerName) : Type 0 where
-  opening : (n : List ℕ) → is_named files.opened n ≡ true → Rose (old n).opening (new n).opening → DeviceFailed files old new
-  reading : (n : List ℕ) → is_named files.whole n ≡ true → Rose (old n).reading (new n).reading → DeviceFailed files old new
-  creating : (n : List ℕ) → is_named files.created n ≡ true → Rose (old n).creating (new n).creating → DeviceFailed files old new
-  writing : (n : List ℕ) → is_named files.created n ≡ true → Rose (old n).writing (new n).writing → DeviceFailed files old new
+  opening : (n : List ℕ) → is_named files.opened n ≡ true → Rose (old n).opening (new n).opening
+      → DeviceFailed files old new
+  reading : (n : List ℕ) → is_named files.whole n ≡ true → Rose (old n).reading (new n).reading
+      → DeviceFailed files old new
+  creating : (n : List ℕ) → is_named files.created n ≡ true → Rose (old n).creating (new n).creating
+      → DeviceFailed files old new
+  writing : (n : List ℕ) → is_named files.created n ≡ true → Rose (old n).writing (new n).writing
+      → DeviceFailed files old new
 
 -- where no device failed, the outcome of the request is the answer, or memory ran out
 abbrev pub IsAnswer : RequestOutcome → List (List ℕ) → Type 0 → Type 0 → Cause → Type 0
@@ -463,13 +488,15 @@ IsAnswer (Refused refusal) whole Failed TextFailed cause = (Failed → ⊥) → 
 IsAnswer NotBuilt whole Failed TextFailed cause = (Failed → ⊥) → IsOr C.NotBuilt cause
 IsAnswer (Reports report c) whole Failed TextFailed cause = (Failed → ⊥) → (TextFailed → ⊥) → IsOr C.Done cause
 IsAnswer (BadArrivals c op) whole Failed TextFailed cause = (Failed → ⊥) → IsOr (C.BadArrivals op) cause
-IsAnswer (Runs c g m) whole Failed TextFailed cause = (Failed → ⊥) → (TextFailed → ⊥) → IsOr (cause_of (run_fault g m)) cause
+IsAnswer (Runs c g m) whole Failed TextFailed cause =
+    (Failed → ⊥) → (TextFailed → ⊥) → IsOr (cause_of (run_fault g m)) cause
 
 -- whatever the outcome of the request
 abbrev pub IsComplete : Option Request → Ended → PerName → PerName → Type 0 → Told → Type 0
 IsComplete request ended counts now TextFailed told =
     (result : RequestOutcome) → IsOutcome told ended.arrivals request result
-    → ForFiles told request (λ files. IsAnswer result files.whole (DeviceFailed files counts now) TextFailed ended.cause)
+    → ForFiles told request (λ files. IsAnswer result files.whole
+    (DeviceFailed files counts now) TextFailed ended.cause)
 
 -- the words alone decide that there is no request, or that it isn't built
 abbrev pub ByWords : Option Request → Cause → PerName → PerName → Type 0

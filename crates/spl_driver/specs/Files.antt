@@ -60,4 +60,10 @@ pub record FilesOf : Type 0 where
 
 abbrev pub files_of : Option Request → List CheckedClauses → FilesOf
 files_of request parts =
-    record { opened = opens request parts; whole = whole_files request; most = most_bytes request; rows = row_files request parts; created = creates request parts }
+    record {
+      opened = opens request parts;
+      whole = whole_files request;
+      most = most_bytes request;
+      rows = row_files request parts;
+      created = creates request parts;
+    }

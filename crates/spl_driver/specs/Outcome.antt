@@ -63,7 +63,8 @@ abbrev pub run_outcome : CheckedGraph → Told → Arrivals → RequestOutcome
 run_outcome c told arrivals = Runs c (graph_of c) (meant (graph_of c) told arrivals.lists)
 
 -- the program in this file can be read, and is accepted with this graph or refused
-pub record IsFound (told : Told) (program : List ℕ) (names : List (List ℕ)) (found : Result CheckedGraph Refusal) : Type 0 where
+pub record IsFound (told : Told) (program : List ℕ) (names : List (List ℕ))
+    (found : Result CheckedGraph Refusal) : Type 0 where
   pub read : has_fault (told.script program) ≡ false
   pub accepted : IsAccepted (told.script program).bytes names found
 
@@ -78,15 +79,20 @@ IsSomeRefusal request refusal = (bytes : List ℕ) × IsAccepted bytes (file_nam
 -- The result of a run of an accepted program under a record: the record isn't whole for an operator, of which this is the
 -- first in topological order; or it is whole for all, and the run has its meaning.
 pub data IsUnder (told : Told) (c : CheckedGraph) (arrivals : Arrivals) : RequestOutcome → Type 0 where
-  partial : (n : ℕ) → IsFirstNotWhole (graph_of c) (meant (graph_of c) told arrivals.lists) (entries_in arrivals.lists) n
+  partial : (n : ℕ)
+      → IsFirstNotWhole (graph_of c) (meant (graph_of c) told arrivals.lists) (entries_in arrivals.lists) n
       → IsUnder told c arrivals (BadArrivals c (Some n))
-  whole : AreWhole (graph_of c) (meant (graph_of c) told arrivals.lists) (entries_in arrivals.lists) → IsUnder told c arrivals (run_outcome c told arrivals)
+  whole : AreWhole (graph_of c) (meant (graph_of c) told arrivals.lists) (entries_in arrivals.lists)
+      → IsUnder told c arrivals (run_outcome c told arrivals)
 
 -- The result of a replay of an accepted program, by the file of its record: it can't be read; it spells none; or what it spells is followed.
 pub data IsReplay (told : Told) (c : CheckedGraph) (file : List ℕ) : RequestOutcome → Type 0 where
   unread : has_record_fault (told.script file) ≡ true → IsReplay told c file (Unreadable file)
-  misspelt : has_record_fault (told.script file) ≡ false → ((arrivals : Arrivals) → Spells c (told.script file).bytes arrivals → ⊥) → IsReplay told c file (BadArrivals c None)
-  spelled : (arrivals : Arrivals) (result : RequestOutcome) → has_record_fault (told.script file) ≡ false → Spells c (told.script file).bytes arrivals
+  misspelt : has_record_fault (told.script file) ≡ false
+      → ((arrivals : Arrivals) → Spells c (told.script file).bytes arrivals → ⊥)
+      → IsReplay told c file (BadArrivals c None)
+  spelled : (arrivals : Arrivals) (result : RequestOutcome) → has_record_fault (told.script file) ≡ false
+      → Spells c (told.script file).bytes arrivals
       → IsUnder told c arrivals result → IsReplay told c file result
 
 -- A request with ample memory has one outcome, by its case: the words are no request; they ask for what isn't built; the program can't be read; it
@@ -94,17 +100,22 @@ pub data IsReplay (told : Told) (c : CheckedGraph) (file : List ℕ) : RequestOu
 pub data IsOutcome (told : Told) (arrivals : Arrivals) : Option Request → RequestOutcome → Type 0 where
   no_request : IsOutcome told arrivals None NoRequest
   not_built : (request : Request) → is_built request ≡ false → IsOutcome told arrivals (Some request) NotBuilt
-  unreadable : (request : Request) (program : List ℕ) → is_built request ≡ true → program_of request ≡ Some program → has_fault (told.script program) ≡ true
+  unreadable : (request : Request) (program : List ℕ) → is_built request ≡ true → program_of request ≡ Some program
+      → has_fault (told.script program) ≡ true
       → IsOutcome told arrivals (Some request) (Unreadable program)
-  refused : (request : Request) (program : List ℕ) (refusal : Refusal) → is_built request ≡ true → program_of request ≡ Some program
-      → IsFound told program (file_names request) (Err refusal) → IsOutcome told arrivals (Some request) (Refused refusal)
+  refused : (request : Request) (program : List ℕ) (refusal : Refusal) → is_built request ≡ true
+      → program_of request ≡ Some program
+      → IsFound told program (file_names request) (Err refusal)
+      → IsOutcome told arrivals (Some request) (Refused refusal)
   checks : (program : List ℕ) (c : CheckedGraph) → IsFound told program (program ∷ []) (Ok c)
       → IsOutcome told arrivals (Some (R.Check program)) (Reports OfSize c)
   plans : (program : List ℕ) (c : CheckedGraph) → IsFound told program (program ∷ []) (Ok c)
       → IsOutcome told arrivals (Some (R.Plan program)) (Reports OfPlan c)
-  runs : (program : List ℕ) (options : RunOptions) (c : CheckedGraph) → is_plain options ≡ true → IsFound told program (file_names (R.Run program options)) (Ok c)
+  runs : (program : List ℕ) (options : RunOptions) (c : CheckedGraph) → is_plain options ≡ true
+      → IsFound told program (file_names (R.Run program options)) (Ok c)
       → IsOutcome told arrivals (Some (R.Run program options)) (run_outcome c told arrivals)
-  replays : (program file : List ℕ) (c : CheckedGraph) (result : RequestOutcome) → IsFound told program (file_names (R.Replay program file)) (Ok c) → IsReplay told c file result
+  replays : (program file : List ℕ) (c : CheckedGraph) (result : RequestOutcome)
+      → IsFound told program (file_names (R.Replay program file)) (Ok c) → IsReplay told c file result
       → IsOutcome told arrivals (Some (R.Replay program file)) result
 
 -- ---- the operators of its program
@@ -112,6 +123,8 @@ pub data IsOutcome (told : Told) (arrivals : Arrivals) : Option Request → Requ
 -- The clauses of the operators of the request's program: none where there is no program, where it can't be read, or where it isn't accepted.
 pub data ArePartsIn (told : Told) : Option Request → List CheckedClauses → Type 0 where
   of_no_program : (request : Option Request) → option_and_then program_of request ≡ None → ArePartsIn told request []
-  of_unreadable : (request : Request) (program : List ℕ) → program_of request ≡ Some program → has_fault (told.script program) ≡ true → ArePartsIn told (Some request) []
-  of_program : (request : Request) (program : List ℕ) (found : Result CheckedGraph Refusal) → program_of request ≡ Some program
+  of_unreadable : (request : Request) (program : List ℕ) → program_of request ≡ Some program
+      → has_fault (told.script program) ≡ true → ArePartsIn told (Some request) []
+  of_program : (request : Request) (program : List ℕ) (found : Result CheckedGraph Refusal)
+      → program_of request ≡ Some program
       → IsFound told program (file_names request) found → ArePartsIn told (Some request) (parts_of found)

@@ -28,17 +28,21 @@ pub record ShownBy (cause : Cause) (request : Option Request) (old new : PerName
   pub are : ArePartsOf request parts
   pub device : (rows_of cause).shows (files_of request parts) old new
   pub stopped : (rows_of cause).stopped parts old new
-  pub others : (n : List ℕ) → (is_named (opens request parts) n || is_named (creates request parts) n) ≡ false → new n ≡ old n
-  pub reading : (n : List ℕ) → is_named (row_files request parts) n ≡ false → (new n).reading ≢ (old n).reading → IsOr (C.ReadFailed n) cause
+  pub others : (n : List ℕ) → (is_named (opens request parts) n || is_named (creates request parts) n) ≡ false
+      → new n ≡ old n
+  pub reading : (n : List ℕ) → is_named (row_files request parts) n ≡ false → (new n).reading ≢ (old n).reading
+      → IsOr (C.ReadFailed n) cause
 
 -- the text couldn't be told of a request that was carried out
 abbrev pub TextShown : List ℕ → Option Request → PerName → PerName → Type 0 → Type 0
 TextShown name request old new TextFailed =
-    (parts : List CheckedClauses) × ArePartsOf request parts × TellingFailed name TextFailed (row_files request parts) old new
+    (parts : List CheckedClauses) × ArePartsOf request parts
+    × TellingFailed name TextFailed (row_files request parts) old new
 
 abbrev pub Shown : Cause → Option Request → PerName → PerName → Type 0 → Type 0
 Shown C.BadWords request old new TextFailed = (request ≡ None) × NoCountChanged old new
-Shown (C.WriteFailed name) request old new TextFailed = ShownBy (C.WriteFailed name) request old new ⊎ TextShown name request old new TextFailed
+Shown (C.WriteFailed name) request old new TextFailed =
+    ShownBy (C.WriteFailed name) request old new ⊎ TextShown name request old new TextFailed
 Shown C.Done request old new TextFailed = ShownBy C.Done request old new
 Shown (C.Stopped fault) request old new TextFailed = ShownBy (C.Stopped fault) request old new
 Shown (C.Refused refusal) request old new TextFailed = ShownBy (C.Refused refusal) request old new
@@ -57,4 +61,5 @@ IsRunProgram request c = (is_report request ≡ false) × IsProgramOf request c
 -- what ran, or the request asks for what is told of a program
 abbrev pub RanShown : Cause → Option Request → Ended → PerName → PerName → Type 0
 RanShown cause request ended counts now =
-    (rows_of cause).ran (IsRunProgram request) ((is_report request ≡ true) × ((c : CheckedGraph) × IsProgramOf request c)) ended counts now
+    (rows_of cause).ran (IsRunProgram request) ((is_report request ≡ true)
+    × ((c : CheckedGraph) × IsProgramOf request c)) ended counts now

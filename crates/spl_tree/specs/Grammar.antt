@@ -198,7 +198,8 @@ window_part w = Name w.name ∷ maybe (λ es. in_parens (expressions es)) w.argu
 
 abbrev pub clauses : Clauses → List Phrase
 clauses x =
-    maybe logic x.logic ++ (placed_clause K.Window (alone Windows) x.window ++ (clause K.Param (alone AParameter) x.parameters
+    maybe logic x.logic ++ (placed_clause K.Window (alone Windows) x.window
+    ++ (clause K.Param (alone AParameter) x.parameters
     ++ (placed_clause K.Output (alone Assignments) x.output ++ clause K.Config (alone AParameter) x.config)))
 
 abbrev pub head_port : HeadPort → List Phrase
@@ -233,19 +234,26 @@ pub data Line : Phrase → List Phrase → Type 0 where
   yes : (at : ℕ) → Line (Primary (placed at (X.Bool true))) (At at (Word K.True) ∷ [])
   no : (at : ℕ) → Line (Primary (placed at (X.Bool false))) (At at (Word K.False) ∷ [])
   call : (n : Placed (List ℕ)) (es : List Expr) → Line (Primary (placed n.at (X.Call n.what es))) (call_of n es)
-  group : (at : ℕ) (e : Expr) → Line (Primary (placed at (X.Group e))) (At at (Sign S.LeftParen) ∷ Expression e ∷ Sign S.RightParen ∷ [])
-  list : (at : ℕ) (es : List Expr) → Line (Primary (placed at (X.List es))) (At at (Sign S.LeftBracket) ∷ (expressions es ++ Sign S.RightBracket ∷ []))
+  group : (at : ℕ) (e : Expr)
+      → Line (Primary (placed at (X.Group e))) (At at (Sign S.LeftParen) ∷ Expression e ∷ Sign S.RightParen ∷ [])
+  list : (at : ℕ) (es : List Expr)
+      → Line (Primary (placed at (X.List es)))
+      (At at (Sign S.LeftBracket) ∷ (expressions es ++ Sign S.RightBracket ∷ []))
   map : (at : ℕ) (es : List (Expr × Expr)) → Line (Primary (placed at (X.Map es)))
       (At at (Sign S.LeftBrace) ∷ (separated S.Comma entry es ++ Sign S.RightBrace ∷ []))
   tuple : (at : ℕ) (f : Field Expr) (fs : List (Field Expr))
-      → Line (Primary (placed at (X.Tuple (f ∷ fs)))) (At at (Sign S.LeftBrace) ∷ (separated S.Comma field (f ∷ fs) ++ Sign S.RightBrace ∷ []))
+      → Line (Primary (placed at (X.Tuple (f ∷ fs))))
+      (At at (Sign S.LeftBrace) ∷ (separated S.Comma field (f ∷ fs) ++ Sign S.RightBrace ∷ []))
   primary : (e : Expr) → Line (Operand e) (Primary e ∷ [])
-  select : (e : Expr) (s : Step Expr) (ss : List (Step Expr)) → Line (Operand (placed e.at (X.Select e (s ∷ ss)))) (Primary e ∷ row step (s ∷ ss))
-  operator : (at : ℕ) (kind : TokenKind) (p : PrefixOperator) → prefix_of kind ≡ Some p → Line (InFront (placed at p)) (At at (OneToken kind) ∷ [])
+  select : (e : Expr) (s : Step Expr) (ss : List (Step Expr))
+      → Line (Operand (placed e.at (X.Select e (s ∷ ss)))) (Primary e ∷ row step (s ∷ ss))
+  operator : (at : ℕ) (kind : TokenKind) (p : PrefixOperator) → prefix_of kind ≡ Some p
+      → Line (InFront (placed at p)) (At at (OneToken kind) ∷ [])
   cast : (at : ℕ) (kind : TokenKind) (target : CastTarget) → target_of kind ≡ Some target
       → Line (InFront (placed at (P.Cast target))) (At at (Sign S.LeftParen) ∷ OneToken kind ∷ Sign S.RightParen ∷ [])
   operand : (e : Expr) → Line (Unary e) (Operand e ∷ [])
-  prefixed : (p : Prefix) (ps : List Prefix) (e : Expr) → Line (Unary (placed p.at (X.Unary (p ∷ ps) e))) (row (alone InFront) (p ∷ ps) ++ Operand e ∷ [])
+  prefixed : (p : Prefix) (ps : List Prefix) (e : Expr)
+      → Line (Unary (placed p.at (X.Unary (p ∷ ps) e))) (row (alone InFront) (p ∷ ps) ++ Operand e ∷ [])
   unary : (e : Expr) → Line (Level 0 e) (Unary e ∷ [])
   tighter : (k : ℕ) (e : Expr) → Line (Level (suc k) e) (Level k e ∷ [])
   -- operators of one level group to the left
@@ -261,11 +269,14 @@ pub data Line : Phrase → List Phrase → Type 0 where
   integer : (at : ℕ) (k : IntKind) → Line (AType (placed at (Y.Int k))) (At at (Word (K.Int k)) ∷ [])
   left_out : (at : ℕ) (w : LeftOut) → Line (AType (placed at (Y.LeftOut w))) (At at (Word (K.LeftOut w)) ∷ [])
   named : (n : Placed (List ℕ)) → Line (AType (placed n.at (Y.Name n.what))) (Name n ∷ [])
-  list_of : (at : ℕ) (k : TypeExpr) → Line (AType (placed at (Y.List k))) (At at (Word K.List) ∷ Sign S.Less ∷ AType k ∷ Sign S.Greater ∷ [])
+  list_of : (at : ℕ) (k : TypeExpr)
+      → Line (AType (placed at (Y.List k))) (At at (Word K.List) ∷ Sign S.Less ∷ AType k ∷ Sign S.Greater ∷ [])
   map_of : (at : ℕ) (k v : TypeExpr)
-      → Line (AType (placed at (Y.Map k v))) (At at (Word K.Map) ∷ Sign S.Less ∷ AType k ∷ Sign S.Comma ∷ AType v ∷ Sign S.Greater ∷ [])
+      → Line (AType (placed at (Y.Map k v))) (At at (Word K.Map) ∷ Sign S.Less
+      ∷ AType k ∷ Sign S.Comma ∷ AType v ∷ Sign S.Greater ∷ [])
   tuple_of : (at : ℕ) (x : Attribute TypeExpr) (xs : List (Attribute TypeExpr))
-      → Line (AType (placed at (Y.Tuple (x ∷ xs)))) (At at (Word K.Tuple) ∷ Sign S.Less ∷ (attributes (x ∷ xs) ++ Sign S.Greater ∷ []))
+      → Line (AType (placed at (Y.Tuple (x ∷ xs))))
+      (At at (Word K.Tuple) ∷ Sign S.Less ∷ (attributes (x ∷ xs) ++ Sign S.Greater ∷ []))
   of_type : (k : TypeExpr) → Line (AShape (placed k.at (H.Type k))) (AType k ∷ [])
   of_attributes : (x : Attribute TypeExpr) (xs : List (Attribute TypeExpr))
       → Line (AShape (placed x.kind.at (H.Attributes (x ∷ xs)))) (attributes (x ∷ xs))
@@ -281,19 +292,25 @@ pub data Line : Phrase → List Phrase → Type 0 where
       (At at (Sign S.LeftBrace) ∷ (row (alone AnyStatement) ss ++ Sign S.RightBrace ∷ []))
   declare : (at : ℕ) (d : Declaration) → Line (Statement true (placed at (Z.Declare d))) (At at (Variable d) ∷ [])
   assign : (p e : Expr) (op : Option BinaryOperator) (kind : TokenKind) → assignment_of kind ≡ Some op
-      → Line (Statement true (placed p.at (Z.Assign p op e))) (Place p ∷ OneToken kind ∷ Expression e ∷ Sign S.Semicolon ∷ [])
+      → Line (Statement true (placed p.at (Z.Assign p op e)))
+      (Place p ∷ OneToken kind ∷ Expression e ∷ Sign S.Semicolon ∷ [])
   call_alone : (n : Placed (List ℕ)) (es : List Expr)
-      → Line (Statement true (placed n.at (Z.Call (placed n.at (X.Call n.what es))))) (call_of n es ++ Sign S.Semicolon ∷ [])
+      → Line (Statement true (placed n.at (Z.Call (placed n.at (X.Call n.what es)))))
+      (call_of n es ++ Sign S.Semicolon ∷ [])
   -- an `else` belongs to the nearest `if`, so what stands before one is closed; an `if` right after it is one more arm
-  if_alone : (last : Bool) (at : ℕ) (arms : List (Expr × Stmt)) → Line (Statement false (placed at (Z.If arms None))) (Arms last at arms ∷ [])
+  if_alone : (last : Bool) (at : ℕ) (arms : List (Expr × Stmt))
+      → Line (Statement false (placed at (Z.If arms None))) (Arms last at arms ∷ [])
   if_else : (closed : Bool) (at : ℕ) (arms : List (Expr × Stmt)) (s : Stmt) → IsNoIf s
-      → Line (Statement closed (placed at (Z.If arms (Some s)))) (Arms true at arms ∷ Word K.Else ∷ Statement closed s ∷ [])
+      → Line (Statement closed (placed at (Z.If arms (Some s))))
+      (Arms true at arms ∷ Word K.Else ∷ Statement closed s ∷ [])
   first_arm : (closed : Bool) (at : ℕ) (e : Expr) (s : Stmt)
       → Line (Arms closed at ((e, s) ∷ [])) (At at (Word K.If) ∷ (condition e ++ Statement closed s ∷ []))
   next_arm : (closed : Bool) (at : ℕ) (arms : List (Expr × Stmt)) (e : Expr) (s : Stmt)
-      → Line (Arms closed at (arms ++ (e, s) ∷ [])) (Arms true at arms ∷ Word K.Else ∷ Word K.If ∷ (condition e ++ Statement closed s ∷ []))
+      → Line (Arms closed at (arms ++ (e, s) ∷ []))
+      (Arms true at arms ∷ Word K.Else ∷ Word K.If ∷ (condition e ++ Statement closed s ∷ []))
   while : (closed : Bool) (at : ℕ) (e : Expr) (s : Stmt)
-      → Line (Statement closed (placed at (Z.While e s))) (At at (Word K.While) ∷ (condition e ++ Statement closed s ∷ []))
+      → Line (Statement closed (placed at (Z.While e s)))
+      (At at (Word K.While) ∷ (condition e ++ Statement closed s ∷ []))
   for : (closed : Bool) (at : ℕ) (x : Attribute TypeExpr) (e : Expr) (s : Stmt)
       → Line (Statement closed (placed at (Z.For x e s))) (At at (Word K.For)
       ∷ (in_parens (AType x.kind ∷ Name x.name ∷ Word K.In ∷ Expression e ∷ []) ++ Statement closed s ∷ []))
@@ -313,15 +330,19 @@ pub data Line : Phrase → List Phrase → Type 0 where
       → Line (Input (record { streams = n ∷ ns; alias = l })) (separated S.Comma (alone Name) (n ∷ ns) ++ alias l)
   no_state : Line (States []) []
   one_variable : (d : Declaration) → Line (States (d ∷ [])) (Word K.State ∷ Sign S.Colon ∷ Variable d ∷ [])
-  variables : (ds : List Declaration) → Line (States ds) (Word K.State ∷ Sign S.Colon ∷ in_braces (row (alone Variable) ds))
+  variables : (ds : List Declaration)
+      → Line (States ds) (Word K.State ∷ Sign S.Colon ∷ in_braces (row (alone Variable) ds))
   port_window : (n : Placed (List ℕ)) (w : WindowPart) (ws : List WindowPart)
-      → Line (Windows (record { port = n; parts = w ∷ ws })) (Name n ∷ Sign S.Colon ∷ (separated S.Comma window_part (w ∷ ws) ++ Sign S.Semicolon ∷ []))
+      → Line (Windows (record { port = n; parts = w ∷ ws }))
+      (Name n ∷ Sign S.Colon ∷ (separated S.Comma window_part (w ∷ ws) ++ Sign S.Semicolon ∷ []))
   assignments : (n : Placed (List ℕ)) (f : Field Expr) (fs : List (Field Expr))
       → Line (Assignments (record { stream = n; assignments = f ∷ fs }))
       (Name n ∷ Sign S.Colon ∷ (separated S.Comma field (f ∷ fs) ++ Sign S.Semicolon ∷ []))
   parameter : (n : Placed (List ℕ)) (e : Expr) (es : List Expr)
-      → Line (AParameter (record { name = n; values = e ∷ es })) (Name n ∷ Sign S.Colon ∷ (expressions (e ∷ es) ++ Sign S.Semicolon ∷ []))
-  no_clauses : Line (Ending (record { logic = None; window = None; parameters = []; output = None; config = [] })) (Sign S.Semicolon ∷ [])
+      → Line (AParameter (record { name = n; values = e ∷ es }))
+      (Name n ∷ Sign S.Colon ∷ (expressions (e ∷ es) ++ Sign S.Semicolon ∷ []))
+  no_clauses : Line (Ending (record { logic = None; window = None; parameters = []; output = None; config = [] }))
+      (Sign S.Semicolon ∷ [])
   with_clauses : (x : Clauses) → Line (Ending x) (in_braces (clauses x))
   invocation : (v : Invocation) → Line (AnInvocation v)
       (At v.at (Head v.outputs v.alias) ∷ Sign S.Assign ∷ Name v.operator
@@ -331,15 +352,20 @@ pub data Line : Phrase → List Phrase → Type 0 where
   outputs_alone : (u : HeadPort) (us : List HeadPort) → Line (Ports (u ∷ us) []) (in_parens (ports K.Output (u ∷ us)))
   inputs_alone : (i : HeadPort) (is : List HeadPort) → Line (Ports [] (i ∷ is)) (in_parens (ports K.Input (i ∷ is)))
   outputs_first : (u i : HeadPort) (us is : List HeadPort)
-      → Line (Ports (u ∷ us) (i ∷ is)) (in_parens (ports K.Output (u ∷ us) ++ Sign S.Semicolon ∷ ports K.Input (i ∷ is)))
+      → Line (Ports (u ∷ us) (i ∷ is)) (in_parens
+      (ports K.Output (u ∷ us) ++ Sign S.Semicolon ∷ ports K.Input (i ∷ is)))
   inputs_first : (u i : HeadPort) (us is : List HeadPort)
-      → Line (Ports (u ∷ us) (i ∷ is)) (in_parens (ports K.Input (i ∷ is) ++ Sign S.Semicolon ∷ ports K.Output (u ∷ us)))
+      → Line (Ports (u ∷ us) (i ∷ is)) (in_parens
+      (ports K.Input (i ∷ is) ++ Sign S.Semicolon ∷ ports K.Output (u ∷ us)))
   composite : (c : Composite) → Line (ADefinition (D.Composite c))
-      (Optional (Word K.Public) ∷ Word K.Composite ∷ Name c.name ∷ Ports c.outputs c.inputs ∷ in_braces (clause K.Param composite_parameter c.parameters
-      ++ (clause K.Type type_definition c.types ++ (clause K.Graph (alone AnInvocation) c.graph ++ clause K.Config (alone AParameter) c.config))))
+      (Optional (Word K.Public) ∷ Word K.Composite ∷ Name c.name ∷ Ports c.outputs c.inputs
+      ∷ in_braces (clause K.Param composite_parameter c.parameters
+      ++ (clause K.Type type_definition c.types ++
+      (clause K.Graph (alone AnInvocation) c.graph ++ clause K.Config (alone AParameter) c.config))))
   typedef : (x : TypeDefinition) → Line (ADefinition (D.Type x)) (Word K.Type ∷ type_definition x)
   function : (f : FunctionDefinition)
-      → Line (ADefinition (D.Function f)) (result_type f.result ++ (Name f.name ∷ (in_parens (attributes f.parameters) ++ block f.body)))
+      → Line (ADefinition (D.Function f)) (result_type f.result
+      ++ (Name f.name ∷ (in_parens (attributes f.parameters) ++ block f.body)))
   no_namespace : Line Namespace []
   namespace : (n : Placed (List ℕ)) (ns : List (Placed (List ℕ)))
       → Line Namespace (Word K.Namespace ∷ (separated S.Dot (alone Name) (n ∷ ns) ++ Sign S.Semicolon ∷ []))

@@ -127,10 +127,13 @@ text_kind (Err at) = Err (E.BadByte, at)
 abbrev pub form : List ℕ → Option (Result TokenKind Refusal)
 form [] = None
 form (b ∷ bs) =
-    if is_letter b then option_map (λ word. Ok (word_kind word (keyword_of word))) (then_some (is_word (b ∷ bs)) (b ∷ bs))
-    else (if is_digit b then option_map (number_kind (fold digit_step 0 (digits (b ∷ bs)))) (suffix_kind (suffix (b ∷ bs)))
+    if is_letter b then option_map (λ word. Ok (word_kind word (keyword_of word)))
+    (then_some (is_word (b ∷ bs)) (b ∷ bs))
+    else (if is_digit b then option_map (number_kind (fold digit_step 0 (digits (b ∷ bs))))
+    (suffix_kind (suffix (b ∷ bs)))
     else (if b == 36 then option_map (λ word. Ok (T.Dollar word)) (then_some (is_word bs) bs)
-    else (if is_quote b then option_map (λ text. text_kind (unescaped 1 (between_quotes text))) (then_some (ends_text b false bs) (b ∷ bs))
+    else (if is_quote b then option_map (λ text. text_kind (unescaped 1 (between_quotes text)))
+    (then_some (ends_text b false bs) (b ∷ bs))
     else option_map (λ s. Ok (T.Symbol s)) (symbol_of (b ∷ bs)))))
 
 abbrev pub is_formed : List ℕ → Bool
@@ -166,7 +169,8 @@ is_run_on bs n = begins is_digit bs && begins is_word_byte (drop n bs)
 
 abbrev pub token_front : List ℕ → ℕ → Front
 token_front bs zero = Refuse (if begins is_quote bs then E.OpenText else E.BadByte) 0
-token_front bs (suc n) = if is_run_on bs (suc n) then Refuse E.BadNumber 0 else as_front (suc n) (kind_of (take (suc n) bs))
+token_front bs (suc n) =
+    if is_run_on bs (suc n) then Refuse E.BadNumber 0 else as_front (suc n) (kind_of (take (suc n) bs))
 
 -- how many bytes there are up to the first `*/`, and with it
 abbrev pub comment_length : List ℕ → Option ℕ
@@ -193,7 +197,8 @@ front (b ∷ bs) =
 -- refusal stands at their front
 pub data Lexes : (at : ℕ) → List ℕ → List Token → Option Refusal → Type 0 where
   done : (at : ℕ) → Lexes at [] [] None
-  gap : (at n : ℕ) (bs : List ℕ) (ts : List Token) (stop : Option Refusal) → front bs ≡ Pass n → Lexes (at + n) (drop n bs) ts stop
+  gap : (at n : ℕ) (bs : List ℕ) (ts : List Token) (stop : Option Refusal) → front bs ≡ Pass n
+      → Lexes (at + n) (drop n bs) ts stop
       → Lexes at bs ts stop
   token : (at n : ℕ) (k : TokenKind) (bs : List ℕ) (ts : List Token) (stop : Option Refusal) → front bs ≡ Take k n
       → Lexes (at + n) (drop n bs) ts stop → Lexes at bs (record { kind = k; start = at; end = at + n } ∷ ts) stop
@@ -202,8 +207,10 @@ pub data Lexes : (at : ℕ) → List ℕ → List Token → Option Refusal → T
 -- the tokens of a program, or its first refusal; a program that is too long has no other one
 pub data IsLexed (bytes : List ℕ) : Result Tokens Refusal → Type 0 where
   too_long : MOST_BYTES < length bytes → IsLexed bytes (Err (E.TooLong, MOST_BYTES))
-  whole : (ts : List Token) → length bytes ≤ MOST_BYTES → Lexes 0 bytes ts None → IsLexed bytes (Ok (record { list = ts; length = length bytes }))
-  refused : (ts : List Token) (r : Refusal) → length bytes ≤ MOST_BYTES → Lexes 0 bytes ts (Some r) → IsLexed bytes (Err r)
+  whole : (ts : List Token) → length bytes ≤ MOST_BYTES → Lexes 0 bytes ts None
+      → IsLexed bytes (Ok (record { list = ts; length = length bytes }))
+  refused : (ts : List Token) (r : Refusal) → length bytes ≤ MOST_BYTES → Lexes 0 bytes ts (Some r)
+      → IsLexed bytes (Err r)
 
 -- The same, computed
 

@@ -66,7 +66,8 @@ pub record Weighing : Type 0 where
 -- stands in
 abbrev pub after_closing : (brace next_adds : Bool) → Weighing → Opened → Weighing
 after_closing brace next_adds d [] = d
-after_closing brace next_adds d (before ∷ outer) = record { weight = if brace && not next_adds then level_start outer else before; opened = outer }
+after_closing brace next_adds d (before ∷ outer) =
+    record { weight = if brace && not next_adds then level_start outer else before; opened = outer }
 
 abbrev pub after_token : Effect → (next_adds : Bool) → Weighing → Weighing
 after_token Nothing next_adds d = d

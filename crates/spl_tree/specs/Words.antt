@@ -53,7 +53,8 @@ symbols =
     S.LeftParen ∷ S.RightParen ∷ S.LeftBracket ∷ S.RightBracket ∷ S.LeftBrace ∷ S.RightBrace ∷
     S.Comma ∷ S.Semicolon ∷ S.Colon ∷ S.Dot ∷ S.Assign ∷ S.Equal ∷ S.NotEqual ∷ S.Less ∷
     S.LessOrEqual ∷ S.Greater ∷ S.GreaterOrEqual ∷ S.Plus ∷ S.Minus ∷ S.Star ∷ S.Slash ∷
-    S.Percent ∷ S.Exclamation ∷ S.Tilde ∷ S.Ampersand ∷ S.DoubleAmpersand ∷ S.Caret ∷ S.Pipe ∷ S.DoublePipe ∷ S.Question ∷
+    S.Percent ∷ S.Exclamation ∷ S.Tilde ∷ S.Ampersand ∷ S.DoubleAmpersand
+    ∷ S.Caret ∷ S.Pipe ∷ S.DoublePipe ∷ S.Question ∷
     S.PlusAssign ∷ S.MinusAssign ∷ S.StarAssign ∷ S.SlashAssign ∷ S.PercentAssign ∷ []
 
 -- the symbol that these bytes, all of them, are

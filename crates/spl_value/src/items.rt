@@ -167,7 +167,7 @@ impl<T> Items<T> {
     ghost use Rattle.std.proofs.Common.{drop};
 
     /// Where the list takes its memory from.
-    pub fn allocator(&self) -> Global {
+    pub(crate) fn allocator(&self) -> Global {
         *self.items.allocator()
     }
 

@@ -34,14 +34,16 @@ use Rattle.stream_model.specs.Windows.{integer_of, partition_key, fired_at}
 abbrev pub arguments : List Function → List CollectedAttribute → Env → ℕ → Outcome (List (Option Value))
 arguments functions [] env turns = Done [] turns
 arguments functions (x ∷ xs) env turns =
-    followed (option_map_or (λ code. followed (value functions code (world_of env) turns) (λ v turns. Done (Some v) turns)) x.argument (Done None turns))
+    followed (option_map_or (λ code. followed (value functions code (world_of env) turns)
+    (λ v turns. Done (Some v) turns)) x.argument (Done None turns))
     (λ a turns. followed (arguments functions xs env turns) (λ more turns. Done (a ∷ more) turns))
 
 -- the values of the argument of the assignment with this number, tuple by tuple, as they were evaluated when it came:
 -- none where that faulted
 abbrev pub values_of : List Function → List CollectedAttribute → ℕ → List (List Value) → List Value
 values_of functions output k ts =
-    filter_map (λ t. option_and_then (λ a. a) (slice_get (done_or (λ values. values) (arguments functions output (at_tuple t) most_turns) []) k)) ts
+    filter_map (λ t. option_and_then (λ a. a) (slice_get
+    (done_or (λ values. values) (arguments functions output (at_tuple t) most_turns) []) k)) ts
 
 -- ---- what is made of values
 
@@ -76,7 +78,8 @@ collected K.Count n vs = Some (V.Int (wrapped N.I32 (pos n)))
 -- ---- the tuple of a group
 
 -- the attributes that the assignments from number k on get of the tuples of a group, with their places
-abbrev pub attributes_from : List Function → List CollectedAttribute → List (List Value) → ℕ → List CollectedAttribute → Option (List (ℕ × Value))
+abbrev pub attributes_from : List Function → List CollectedAttribute → List (List Value) → ℕ → List CollectedAttribute
+    → Option (List (ℕ × Value))
 attributes_from functions output ts k [] = Some []
 attributes_from functions output ts k (x ∷ xs) =
     option_and_then (λ v. option_map (λ fs. (x.attribute, v) ∷ fs) (attributes_from functions output ts (k + 1) xs))
@@ -85,7 +88,8 @@ attributes_from functions output ts k (x ∷ xs) =
 -- ---- contents
 
 -- the tuple of each group
-abbrev pub tuples_of : List Function → List CollectedAttribute → List (List Value × List (List Value)) → Option (List Output)
+abbrev pub tuples_of : List Function → List CollectedAttribute → List (List Value × List (List Value))
+    → Option (List Output)
 tuples_of functions output [] = Some []
 tuples_of functions output (g ∷ gs) =
     option_and_then (λ t. option_map (λ outs. on_first (I.Tuple t) ++ outs) (tuples_of functions output gs))
@@ -100,22 +104,26 @@ slides (W.SlidingCount n every) = true
 slides (W.SlidingDelta a limit every) = true
 
 -- for each content a tuple of each group, by ascending key, and a window marker where the window tumbles
-abbrev pub contents_give : List Function → List ℕ → List CollectedAttribute → WindowRule → List (List (List Value)) → Option (List Output)
+abbrev pub contents_give : List Function → List ℕ → List CollectedAttribute → WindowRule → List (List (List Value))
+    → Option (List Output)
 contents_give functions group output rule [] = Some []
 contents_give functions group output rule (ts ∷ contents) =
     option_and_then
-    (λ outs. option_map (λ more. outs ++ (if slides rule then [] else on_first I.Window) ++ more) (contents_give functions group output rule contents))
+    (λ outs. option_map (λ more. outs ++ (if slides rule then [] else on_first I.Window) ++ more)
+    (contents_give functions group output rule contents))
     (tuples_of functions output (groups group ts))
 
 -- what the contents give with which an item fires
-abbrev pub fired_give : List Function → Policy → List ℕ → List ℕ → List CollectedAttribute → List Item → Item → Option (List Output)
+abbrev pub fired_give : List Function → Policy → List ℕ → List ℕ → List CollectedAttribute → List Item → Item
+    → Option (List Output)
 fired_give functions window partition group output earlier x =
     contents_give functions group output window.rule (fired_at window.rule (partition_key window partition) x earlier)
 
 -- ---- the body
 
 -- The arguments are evaluated at each tuple, also where it doesn't fire.
-abbrev pub aggregate_body : List Function → Policy → List ℕ → List ℕ → List CollectedAttribute → List Item → Item → Makes
+abbrev pub aggregate_body : List Function → Policy → List ℕ → List ℕ → List CollectedAttribute → List Item → Item
+    → Makes
 aggregate_body functions window partition group output earlier (I.Tuple t) =
     followed (arguments functions output (at_tuple t) most_turns) (λ values turns.
     need (fired_give functions window partition group output earlier (I.Tuple t)) (λ outs. Done outs turns))

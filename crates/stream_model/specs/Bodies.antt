@@ -64,7 +64,8 @@ holds functions condition env turns = truth (value functions condition) (world_o
 
 -- the same of a condition that may be absent, and holds then
 abbrev pub passes : List Function → Option (Code Slot) → Env → ℕ → Outcome Bool
-passes functions condition env turns = option_map_or (λ code. holds functions code env turns) condition (Done true turns)
+passes functions condition env turns =
+    option_map_or (λ code. holds functions code env turns) condition (Done true turns)
 
 -- the tuple that an expression gives
 abbrev pub tuple_by : List Function → Code Slot → Env → ℕ → Outcome (List Value)
@@ -75,7 +76,8 @@ tuple_by functions code env turns = followed (value functions code (world_of env
 abbrev pub made_where : List Function → Option (Code Slot) → Code Slot → Env → ℕ → Makes
 made_where functions condition code env turns =
     followed (passes functions condition env turns) (λ b turns.
-    if b then followed (tuple_by functions code env turns) (λ vs turns. Done (on_first (I.Tuple vs)) turns) else Done [] turns)
+    if b then followed (tuple_by functions code env turns) (λ vs turns. Done (on_first (I.Tuple vs)) turns)
+    else Done [] turns)
 
 -- ---- bodies
 
@@ -89,12 +91,14 @@ by_item tuple marker (I.Bad f) = Done [] most_turns
 -- a Filter passes the tuples for which its condition holds, and window markers
 abbrev pub filter_body : List Function → Option (Code Slot) → Item → Makes
 filter_body functions condition = by_item
-    (λ vs. followed (passes functions condition (at_tuple vs) most_turns) (λ b turns. Done (if b then on_first (I.Tuple vs) else []) turns))
+    (λ vs. followed (passes functions condition (at_tuple vs) most_turns) (λ b turns.
+    Done (if b then on_first (I.Tuple vs) else []) turns))
     (on_first I.Window)
 
 -- a Functor makes a tuple of each for which its condition holds, and passes window markers
 abbrev pub functor_body : List Function → Option (Code Slot) → Code Slot → Item → Makes
-functor_body functions condition made = by_item (λ vs. made_where functions condition made (at_tuple vs) most_turns) (on_first I.Window)
+functor_body functions condition made =
+    by_item (λ vs. made_where functions condition made (at_tuple vs) most_turns) (on_first I.Window)
 
 -- a tuple with a window marker at this position
 abbrev pub with_marker : Position → List Value → List Output
@@ -127,4 +131,6 @@ values_at vs (i ∷ is) = option_and_then (λ v. option_map (λ us. v ∷ us) (v
 
 -- a Union gives each tuple with its attributes taken by name, from their places in the tuples of its port
 abbrev pub union_body : List (List ℕ) → ℕ → Item → Makes
-union_body places port = by_item (λ vs. need (slice_get places port) (λ is. need (values_at vs is) (λ us. Done (on_first (I.Tuple us)) most_turns))) []
+union_body places port =
+    by_item (λ vs. need (slice_get places port) (λ is. need (values_at vs is)
+    (λ us. Done (on_first (I.Tuple us)) most_turns))) []

@@ -17,7 +17,7 @@ use Rattle.language_model.specs.declared.checked.Collector.{Collector}
 use Rattle.language_model.specs.declared.checked.Collector.TheVariants as K
 use Rattle.language_model.specs.declared.checked.CheckedClauses.{CheckedClauses}
 use Rattle.language_model.specs.declared.checked.CheckedClauses.TheVariants as A
-use Rattle.language_model.specs.Slots.{joined}
+use Rattle.spl_value.specs.Flattened.{flattened}
 use Rattle.stream_model.specs.Stream.{is_empty}
 
 -- ---- expressions
@@ -49,15 +49,15 @@ tuple_source a code = level_source a (out-Code Slot code)
 
 -- the expressions of the tuples that statements submit, in the order of the text
 abbrev pub level_submits : Statement-F (List (Code Slot)) → List (Code Slot)
-level_submits (S.Block row) = joined row
-level_submits (S.If arms other) = joined (map (λ arm. joined arm.1) arms) ++ joined other
-level_submits (S.While code row) = joined row
-level_submits (S.For code row) = joined row
+level_submits (S.Block row) = flattened row
+level_submits (S.If arms other) = flattened (map (λ arm. flattened arm.1) arms) ++ flattened other
+level_submits (S.While code row) = flattened row
+level_submits (S.For code row) = flattened row
 level_submits (S.Submit port code) = code ∷ []
 level_submits _ = []
 
 abbrev pub submits_of : List Statement → List (Code Slot)
-submits_of row = joined (map (fold-Statement (List (Code Slot)) level_submits) row)
+submits_of row = flattened (map (fold-Statement (List (Code Slot)) level_submits) row)
 
 -- where there are bodies
 abbrev pub submits_in : List (Option (List Statement)) → List (Code Slot)
@@ -70,7 +70,8 @@ abbrev pub agreed : ℕ → List (Code Slot) → Option ℕ
 agreed a [] = None
 agreed a (code ∷ []) = tuple_source a code
 agreed a (code ∷ next ∷ codes) =
-    option_and_then (λ b. option_and_then (λ c. if c == b then Some b else None) (agreed a (next ∷ codes))) (tuple_source a code)
+    option_and_then (λ b. option_and_then (λ c. if c == b then Some b else None) (agreed a (next ∷ codes)))
+    (tuple_source a code)
 
 -- Of an attribute of `partitionBy`, the first or the last of a group has the value that all tuples of the group's
 -- partition have.
@@ -83,11 +84,13 @@ picks _ = false
 -- assigned has the last tuple's attribute of its name
 abbrev pub kept_source : List ℕ → CollectedAttribute → Option ℕ
 kept_source partition x = if picks x.collector
-    then option_and_then (λ b. if list_any (λ p. p == b) partition then Some b else None) (option_and_then attribute_alone x.argument) else None
+    then option_and_then (λ b. if list_any (λ p. p == b) partition then Some b else None)
+    (option_and_then attribute_alone x.argument) else None
 
 abbrev pub aggregate_source : List ℕ → List CollectedAttribute → ℕ → Option ℕ
 aggregate_source partition [] a = None
-aggregate_source partition (x ∷ xs) a = if x.attribute == a then kept_source partition x else aggregate_source partition xs a
+aggregate_source partition (x ∷ xs) a =
+    if x.attribute == a then kept_source partition x else aggregate_source partition xs a
 
 -- The input attribute of which an output attribute is a copy. Of a Union with several ports it is that of the first
 -- port. In a Custom no body on a marker submits a tuple, and every tuple that is submitted is the input tuple itself or
@@ -98,7 +101,8 @@ source_of (A.Punctor condition position) a = Some a
 source_of (A.Split index) a = Some a
 source_of (A.Union places) a = option_and_then (λ ps. slice_get ps a) (slice_get places 0)
 source_of (A.Functor condition made) a = tuple_source a made
-source_of (A.Custom handlers) a = if is_empty (submits_in handlers.on_punct) then agreed a (submits_in handlers.on_tuple) else None
+source_of (A.Custom handlers) a =
+    if is_empty (submits_in handlers.on_punct) then agreed a (submits_in handlers.on_tuple) else None
 source_of (A.Aggregate window partition group collects) a = aggregate_source partition collects a
 source_of (A.Join left right condition made) a = None
 source_of (A.FileSource file strict) a = None

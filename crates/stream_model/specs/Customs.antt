@@ -44,8 +44,10 @@ left_by functions body env = option_map_or (λ row. runs functions row env most_
 abbrev pub item_leaves : List Function → Handlers → List Value → ℕ → Item → Outcome Left
 item_leaves functions handlers vars port (I.Tuple vs) =
     left_by functions (handler handlers.on_tuple port) (record { inputs = vs ∷ []; vars = vars; punct = None })
-item_leaves functions handlers vars port I.Window = left_by functions (handler handlers.on_punct port) (marker_env vars M.Window)
-item_leaves functions handlers vars port I.Final = left_by functions (handler handlers.on_punct port) (marker_env vars M.Final)
+item_leaves functions handlers vars port I.Window =
+    left_by functions (handler handlers.on_punct port) (marker_env vars M.Window)
+item_leaves functions handlers vars port I.Final =
+    left_by functions (handler handlers.on_punct port) (marker_env vars M.Final)
 item_leaves functions handlers vars port (I.Bad f) = nothing vars
 
 -- ---- the state
@@ -67,11 +69,13 @@ vars_after variables vars outcome = done_or (λ (left : Left). changed variables
 abbrev pub state : List Function → Handlers → List Event → List Value
 state functions handlers [] = map first_value handlers.state
 state functions handlers (e ∷ h) =
-    vars_after handlers.state (state functions handlers h) (item_leaves functions handlers (state functions handlers h) e.input e.item)
+    vars_after handlers.state (state functions handlers h)
+    (item_leaves functions handlers (state functions handlers h) e.input e.item)
 
 -- ---- the body
 
 -- a Custom gives what the body of the port submits, in the order of the calls
 abbrev pub custom_body : List Function → Handlers → List Event → ℕ → Item → Makes
 custom_body functions handlers earlier port x =
-    followed (item_leaves functions handlers (state functions handlers earlier) port x) (λ left turns. Done left.submits turns)
+    followed (item_leaves functions handlers (state functions handlers earlier) port x) (λ left turns.
+    Done left.submits turns)

@@ -33,6 +33,7 @@ pairs_give functions condition output (pair ∷ pairs) turns =
     followed (pairs_give functions condition output pairs turns) (λ more turns. Done (outs ++ more) turns))
 
 -- The tuple goes into its own side's window, which the pairs don't see. Window markers aren't passed.
-abbrev pub join_body : List Function → Policy → Policy → Option (Code Slot) → Code Slot → List Item → List Item → ℕ → Item → Makes
+abbrev pub join_body : List Function → Policy → Policy → Option (Code Slot) → Code Slot → List Item → List Item → ℕ
+    → Item → Makes
 join_body functions left right condition output firsts seconds port =
     by_item (λ t. pairs_give functions condition output (pairs_at left right firsts seconds port t) most_turns) []

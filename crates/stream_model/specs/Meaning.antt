@@ -64,7 +64,8 @@ makes op p streams rows entries = made_by op.clauses op p (events_of op streams 
 abbrev pub streams_of : List Operator → Lists → Entries → Lists
 streams_of [] rows entries s = []
 streams_of (op ∷ earlier) rows entries s =
-    option_map_or (λ p. makes op p (streams_of earlier rows entries) rows entries) (position (λ o. o == s) op.outs) (streams_of earlier rows entries s)
+    option_map_or (λ p. makes op p (streams_of earlier rows entries) rows entries)
+    (position (λ o. o == s) op.outs) (streams_of earlier rows entries s)
 
 pub record Meaning : Type 0 where
   pub streams : ℕ → List Item
@@ -78,14 +79,21 @@ in_topo g = filter_map (slice_get g.ops) g.topo
 abbrev pub meaning : Graph → Lists → Entries → Meaning
 meaning g rows entries = record {
   streams = streams_of (reverse (in_topo g)) rows entries;
-  events = λ n. option_map_or (λ op. events_of op (streams_of (reverse (in_topo g)) rows entries) (entries n)) (slice_get g.ops n) [];
+  events =
+      λ n. option_map_or (λ op. events_of op (streams_of (reverse (in_topo g)) rows entries) (entries n))
+      (slice_get g.ops n) [];
 }
 
 -- the stream of a source, for what its reader gives, of at most 2^40 bytes; a bad row is a fault where the source is
 -- strict
 abbrev pub rows_of : Operator → Bool → Script → List Item
 rows_of op strict script =
-    rows (record { op = op.number; schema = output_attributes op 0; strict = strict; limit = 2 ^ 40 }) script.bytes script.ending
+    rows (record {
+      op = op.number;
+      schema = output_attributes op 0;
+      strict = strict;
+      limit = 2 ^ 40;
+    }) script.bytes script.ending
 
 -- the text that a sink writes for its events, up to its end
 abbrev pub text : Operator → List Event → List ℕ

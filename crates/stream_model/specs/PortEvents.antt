@@ -20,7 +20,8 @@ all_over test (p ∷ ps) i h = if test p then is_over h i && all_over test ps (s
 
 -- a final marker on a port that has another connection without one
 abbrev pub is_waiting : Operator → List Event → Event → Bool
-is_waiting op earlier event = is_final event.item && not (all_over (λ p. p == slice_index (ports op) event.input) (ports op) 0 (event ∷ earlier))
+is_waiting op earlier event =
+    is_final event.item && not (all_over (λ p. p == slice_index (ports op) event.input) (ports op) 0 (event ∷ earlier))
 
 -- all ports have ended with this event
 abbrev pub ends_all : Operator → List Event → Event → Bool
@@ -29,7 +30,8 @@ ends_all op earlier event = is_final event.item && all_over (λ p. true) (ports 
 -- what came by ports
 abbrev pub port_events : Operator → List Event → List Event
 port_events op [] = []
-port_events op (e ∷ h) = if is_waiting op h e then port_events op h else came (slice_index (ports op) e.input) e.item ∷ port_events op h
+port_events op (e ∷ h) =
+    if is_waiting op h e then port_events op h else came (slice_index (ports op) e.input) e.item ∷ port_events op h
 
 -- the items of a port
 abbrev pub port_items : ℕ → List Event → List Item

@@ -48,7 +48,8 @@ answer Stuck = Faults K.BadRow
 
 -- the answer at an event, as an item of its port, by what came on the ports before
 abbrev pub body : Operator → List Event → Event → Reaction
-body op earlier event = answer (makes_by op.clauses op (port_events op earlier) (slice_index (ports op) event.input) event.item)
+body op earlier event =
+    answer (makes_by op.clauses op (port_events op earlier) (slice_index (ports op) event.input) event.item)
 
 -- ---- events
 

@@ -18,7 +18,8 @@ ends_at_last s (e ∷ events) = if (next s e).over then is_empty events else end
 -- the record of an operator is whole for the lists of its inputs: each entry names an input and finds an item in its
 -- list, and the operator ends at the last one
 abbrev pub is_whole : Operator → Lists → List ℕ → Bool
-is_whole op lists entries = list_all (λ i. nat_lt i (length (ports op))) entries && (length (arrive lists entries) == length entries)
+is_whole op lists entries =
+    list_all (λ i. nat_lt i (length (ports op))) entries && (length (arrive lists entries) == length entries)
     && ends_at_last (start op) (arrive lists entries)
 
 -- of these events those up to the first that ends an operator, which hasn't ended before

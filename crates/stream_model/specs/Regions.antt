@@ -85,7 +85,8 @@ is_eligible op = is_single (connections op) && (is_single op.outs && not (is_who
 -- an operator reads the stream of the one before, which no other connection takes
 abbrev pub follows : Graph → Operator → Operator → Bool
 follows g op next =
-    list_all (λ s. list_any (λ t. t == s) (connections next) && (length (filter (λ t. t == s) (concat (map connections g.ops))) == 1)) op.outs
+    list_all (λ s. list_any (λ t. t == s) (connections next)
+    && (length (filter (λ t. t == s) (concat (map connections g.ops))) == 1)) op.outs
 
 abbrev pub is_chain : Graph → List Operator → Bool
 is_chain g [] = true
@@ -133,7 +134,9 @@ is_one_class G.Many = false
 
 -- by turns where each event causes one item and no operator is Keyed, by numbers where one is, and else by pulses
 abbrev pub chain_merge : List Operator → Merge
-chain_merge ops = if list_all (λ (op : Operator). is_one_class (gives op.clauses)) ops then (if any_keyed ops then M.Numbers else M.Turns) else M.Pulses
+chain_merge ops =
+    if list_all (λ (op : Operator). is_one_class (gives op.clauses)) ops
+    then (if any_keyed ops then M.Numbers else M.Turns) else M.Pulses
 
 -- ---- how a region runs
 

@@ -43,7 +43,8 @@ line_gives schema line = of_records schema (records default_config (strip_bom li
 -- one counts whose first byte too many stands first, and for the same byte it is LongRow.
 abbrev pub too_long : ℕ → ℕ → ℕ → Option FaultKind
 too_long len size left =
-    if nat_lt 65536 len && not (nat_lt left 65536) then Some K.LongRow else if nat_lt left size then Some K.LongFile else None
+    if nat_lt 65536 len && not (nat_lt left 65536) then Some K.LongRow
+    else if nat_lt left size then Some K.LongFile else None
 
 abbrev pub source_fault : Setting → FaultKind → ℕ → Item
 source_fault o kind line = I.Bad (record { op = o.op; kind = kind; line = line })
@@ -56,7 +57,8 @@ line_items o line Bad more = if o.strict then source_fault o K.BadRow line ∷ [
 
 -- the line's fault, or else its item, and the stream after it
 abbrev pub checked_items : Setting → ℕ → Option FaultKind → List ℕ → List Item → List Item
-checked_items o line fault bytes more = option_map_or (λ kind. source_fault o kind line ∷ []) fault (line_items o line (line_gives o.schema bytes) more)
+checked_items o line fault bytes more =
+    option_map_or (λ kind. source_fault o kind line ∷ []) fault (line_items o line (line_gives o.schema bytes) more)
 
 -- a source's end: a window marker and the final marker
 abbrev pub closing : List Item
@@ -66,8 +68,10 @@ closing = I.Window ∷ I.Final ∷ []
 -- its bytes are dropped
 abbrev pub last_items : Setting → Ending → ℕ → ℕ → List ℕ → List Item
 last_items o End line left [] = closing
-last_items o End line left (b ∷ bytes) = checked_items o line (too_long (length (b ∷ bytes)) (length (b ∷ bytes)) left) (b ∷ bytes) closing
-last_items o Failed line left bytes = source_fault o (unwrap_or (too_long (length bytes) (length bytes) left) K.ReadFailed) line ∷ []
+last_items o End line left (b ∷ bytes) =
+    checked_items o line (too_long (length (b ∷ bytes)) (length (b ∷ bytes)) left) (b ∷ bytes) closing
+last_items o Failed line left bytes =
+    source_fault o (unwrap_or (too_long (length bytes) (length bytes) left) K.ReadFailed) line ∷ []
 
 -- the items of the lines from this number on, where `left` bytes of the limit remain
 abbrev pub items_from : Setting → Ending → ℕ → ℕ → List (List ℕ) → List Item

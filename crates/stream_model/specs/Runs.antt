@@ -35,12 +35,14 @@ pub record RowsFit (g : Graph) (rows : List (List Item)) : Type 0 where
 -- what each operator without output ports gave its writer
 pub record SinksGiven (g : Graph) (m : Meaning) (sinks : List (List Item)) : Type 0 where
   pub count : length sinks ≡ length g.ops
-  pub given : (n : ℕ) (op : Operator) → slice_get g.ops n ≡ Some op → op.outs ≡ [] → rows_at sinks n ≡ out op 0 (m.events op.number)
+  pub given : (n : ℕ) (op : Operator) → slice_get g.ops n ≡ Some op → op.outs ≡ []
+      → rows_at sinks n ≡ out op 0 (m.events op.number)
 
 -- how many tuples a sink has, where the operator is one
 abbrev pub sink_count : Meaning → Operator → Option SinkCount
 sink_count m op =
-    option_map (λ file. record { op = op.number; tuples = min (length (out op 0 (m.events op.number))) (2 ^ 64 - 1) }) (sink_file op.clauses)
+    option_map (λ file. record { op = op.number; tuples = min (length (out op 0 (m.events op.number))) (2 ^ 64 - 1) })
+    (sink_file op.clauses)
 
 -- the counts of a run without replicas: the tuples of each sink, in the order of the operators
 abbrev pub counts_of : Graph → Meaning → Counts
@@ -72,5 +74,6 @@ pub record IsFirstNotWhole (g : Graph) (m : Meaning) (entries : Entries) (n : �
   pub before : List ℕ
   pub behind : List ℕ
   pub order : g.topo ≡ before ++ n ∷ behind
-  pub earlier : (k : ℕ) (o : Operator) → Contains before k → slice_get g.ops k ≡ Some o → has_several (connections o) ≡ true
+  pub earlier : (k : ℕ) (o : Operator) → Contains before k → slice_get g.ops k ≡ Some o
+      → has_several (connections o) ≡ true
       → is_whole_at m entries o ≡ true

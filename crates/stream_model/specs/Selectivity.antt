@@ -37,11 +37,21 @@ exactly n = record { least = n; most = Some n; returns = false }
 
 -- one and then the other
 abbrev pub both : Interval → Interval → Interval
-both i j = record { least = i.least + j.least; most = option_and_then (λ m. option_map (λ n. m + n) j.most) i.most; returns = i.returns || j.returns }
+both i j =
+    record {
+      least = i.least + j.least;
+      most = option_and_then (λ m. option_map (λ n. m + n) j.most) i.most;
+      returns = i.returns || j.returns;
+    }
 
 -- one or the other
 abbrev pub either : Interval → Interval → Interval
-either i j = record { least = min i.least j.least; most = option_and_then (λ m. option_map (λ n. max m n) j.most) i.most; returns = i.returns || j.returns }
+either i j =
+    record {
+      least = min i.least j.least;
+      most = option_and_then (λ m. option_map (λ n. max m n) j.most) i.most;
+      returns = i.returns || j.returns;
+    }
 
 abbrev pub in_turn : List Interval → Interval
 in_turn [] = exactly 0
@@ -71,7 +81,8 @@ chosen decision i j = option_map_or (λ b. if b then i else j) decision (either 
 -- the statements after the first condition that is true, or else the others
 abbrev pub of_arms : Option Marker → List (Code Slot × List Interval) → List Interval → Interval
 of_arms marker [] other = in_turn other
-of_arms marker (arm ∷ arms) other = chosen (level_decided marker (out-Code Slot arm.0)) (in_turn arm.1) (of_arms marker arms other)
+of_arms marker (arm ∷ arms) other =
+    chosen (level_decided marker (out-Code Slot arm.0)) (in_turn arm.1) (of_arms marker arms other)
 
 abbrev pub level_interval : Option Marker → Statement-F Interval → Interval
 level_interval marker (S.Block row) = in_turn row
@@ -104,7 +115,8 @@ greatest_of marker body = option_map_or (λ row. (row_interval marker row).most)
 
 -- the least and the greatest number are n
 abbrev pub has_exactly : ℕ → Option Marker → Option (List Statement) → Bool
-has_exactly n marker body = (option_map_or (least_number marker) body 0 == n) && option_map_or (λ m. m == n) (greatest_of marker body) false
+has_exactly n marker body =
+    (option_map_or (least_number marker) body 0 == n) && option_map_or (λ m. m == n) (greatest_of marker body) false
 
 abbrev pub has_at_most : ℕ → Option Marker → Option (List Statement) → Bool
 has_at_most n marker body = option_map_or (λ m. nat_le m n) (greatest_of marker body) false
@@ -112,8 +124,10 @@ has_at_most n marker body = option_map_or (λ m. nat_le m n) (greatest_of marker
 -- by the bodies of a port: a tuple, a window marker and the end
 abbrev pub custom_gives : Option (List Statement) → Option (List Statement) → Gives
 custom_gives tuple punct =
-    if has_exactly 1 None tuple && (has_exactly 1 (Some M.Window) punct && has_exactly 0 (Some M.Final) punct) then G.One
-    else if has_at_most 1 None tuple && (has_at_most 1 (Some M.Window) punct && has_at_most 0 (Some M.Final) punct) then G.AtMostOne
+    if has_exactly 1 None tuple && (has_exactly 1 (Some M.Window) punct
+    && has_exactly 0 (Some M.Final) punct) then G.One
+    else if has_at_most 1 None tuple && (has_at_most 1 (Some M.Window) punct && has_at_most 0 (Some M.Final) punct)
+    then G.AtMostOne
     else G.Many
 
 -- ---- operators
@@ -141,7 +155,9 @@ gives (A.Functor condition made) = one_unless condition
 gives (A.Split index) = G.AtMostOne
 gives (A.Union places) = G.AtMostOne
 gives (A.Punctor condition position) = G.Many
-gives (A.Custom handlers) = if is_single handlers.on_tuple then custom_gives (handler handlers.on_tuple 0) (handler handlers.on_punct 0) else G.Many
+gives (A.Custom handlers) =
+    if is_single handlers.on_tuple then custom_gives (handler handlers.on_tuple 0) (handler handlers.on_punct 0)
+    else G.Many
 gives (A.Aggregate window partition group collects) = window_gives window.rule group
 gives (A.FileSource file strict) = G.Many
 gives (A.FileSink file) = G.Many

@@ -20,7 +20,8 @@ state_by (A.Functor condition made) = K.Stateless
 state_by (A.Punctor condition position) = K.Stateless
 state_by (A.Split index) = K.Stateless
 state_by (A.Union places) = K.Stateless
-state_by (A.Custom handlers) = if list_any (λ (x : StateVariable). x.variable.mutable) handlers.state then K.Whole else K.Stateless
+state_by (A.Custom handlers) =
+    if list_any (λ (x : StateVariable). x.variable.mutable) handlers.state then K.Whole else K.Stateless
 state_by (A.Aggregate window partition group collects) =
     if window.partitioned && not (flushes_at_markers window.rule) then K.Keyed partition else K.Whole
 

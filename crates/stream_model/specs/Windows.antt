@@ -149,12 +149,15 @@ trigger_if trigger n ts = option_map_or (λ every. if (n % every) == 0 then Trig
 -- flushes the last n, a start that isn't the first tuple flushes what was held before it, and a trigger fires with what
 -- is held then
 abbrev pub fires_after : WindowRule → List Value → List (List Value) → Firing
-fires_after (W.TumblingCount n) t ts = if (suc (length ts) % n) == 0 then Flushes (in_order (take n (t ∷ ts))) else Silent
+fires_after (W.TumblingCount n) t ts =
+    if (suc (length ts) % n) == 0 then Flushes (in_order (take n (t ∷ ts))) else Silent
 fires_after (W.TumblingDelta a limit) t ts =
-    if is_start (exceeds a limit) t (last_start (exceeds a limit) ts) && not (is_empty ts) then Flushes (held (W.TumblingDelta a limit) ts) else Silent
+    if is_start (exceeds a limit) t (last_start (exceeds a limit) ts)
+    && not (is_empty ts) then Flushes (held (W.TumblingDelta a limit) ts) else Silent
 fires_after W.TumblingPunct t ts = Silent
 fires_after (W.SlidingCount n every) t ts = trigger_if every (suc (length ts)) (held (W.SlidingCount n every) (t ∷ ts))
-fires_after (W.SlidingDelta a limit every) t ts = trigger_if every (suc (length ts)) (held (W.SlidingDelta a limit every) (t ∷ ts))
+fires_after (W.SlidingDelta a limit every) t ts =
+    trigger_if every (suc (length ts)) (held (W.SlidingDelta a limit every) (t ∷ ts))
 
 -- what a window marker flushes after a history, where markers flush: the content of each key of a tuple that came after
 -- the last marker before it, by ascending key

@@ -5,7 +5,7 @@ use Rattle.spl_tree.specs.declared.body.Statement.{Statement}
 use Rattle.spl_tree.specs.declared.body.Statement.TheFolds.{fold-Statement}
 use Rattle.spl_tree.specs.declared.code.Code.{Code}
 use Rattle.spl_tree.specs.declared.code.Slot.{Slot}
-use Rattle.language_model.specs.Slots.{joined}
+use Rattle.spl_value.specs.Flattened.{flattened}
 use Rattle.stream_model.specs.Copies.{level_submits, submits_of, tuple_source}
 use Rattle.attribute_flow.specs.declared.agreement.Agreement.{Agreement}
 use Rattle.attribute_flow.specs.declared.agreement.Agreement.TheVariants as A
@@ -46,4 +46,4 @@ abbrev pub statement_submits : Statement → List (Code Slot)
 statement_submits = fold-Statement (List (Code Slot)) level_submits
 
 abbrev pub arms_submits : List (Code Slot × List Statement) → List (Code Slot)
-arms_submits arms = joined (map (λ arm. submits_of arm.1) arms)
+arms_submits arms = flattened (map (λ arm. submits_of arm.1) arms)
