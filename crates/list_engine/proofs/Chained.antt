@@ -85,7 +85,7 @@ below (suc (suc (suc zero))) h = (3, omega arith, refl)
 below (suc (suc (suc (suc zero)))) h = (4, omega arith, refl)
 below (suc (suc (suc (suc (suc n))))) h = absurd (omega (arith, h))
 
-only : (t s : ℕ) → Contains (t ∷ []) s → t ≡ s
+pub only : (t s : ℕ) → Contains (t ∷ []) s → t ≡ s
 only t s h = go h.0 (there (t ∷ []) s h)
   where
     go : (k : ℕ) → slice_get (t ∷ []) k ≡ Some s → t ≡ s
@@ -214,7 +214,7 @@ divides_fits =
     (F.orders_integers Less I32)
 
 -- the names of the files, and the form of the rows
-ascii : (bytes : List ℕ) → AllByRecursion (λ b. b < 128) bytes → is_utf8 bytes ≡ true
+pub ascii : (bytes : List ℕ) → AllByRecursion (λ b. b < 128) bytes → is_utf8 bytes ≡ true
 ascii bytes h = is_utf8-from_IsUtf8 bytes (IsUtf8-from_ascii bytes (each bytes h))
   where
     each : (bs : List ℕ) → AllByRecursion (λ b. b < 128) bs → (i : ℕ) → get_or bs i 0 < 128
@@ -223,7 +223,7 @@ ascii bytes h = is_utf8-from_IsUtf8 bytes (IsUtf8-from_ascii bytes (each bytes h
     each (b ∷ bs) g zero = g.0
     each (b ∷ bs) g (suc i) = each bs g.1 i
 
-in_named : IsTrue (is_file_name (codes "in"))
+pub in_named : IsTrue (is_file_name (codes "in"))
 in_named = ap (λ b. b && true && true) (ascii (codes "in") (omega arith, (omega arith, tt)))
 
 some_named : IsTrue (is_file_name (codes "some"))

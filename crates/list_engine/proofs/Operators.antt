@@ -66,7 +66,7 @@ made_by_source (A.Custom handlers) o p events rows e = absurd cc
 made_by_source (A.Aggregate window partition group output) o p events rows e = absurd cc
 made_by_source (A.Join left right condition output) o p events rows e = absurd cc
 
-made_by_other : (part : CheckedClauses) (o : Operator) (p : ℕ) (events : List Event) (rows : List Item) → is_source part ≡ false → made_by part o p events rows ≡ out o p events
+pub made_by_other : (part : CheckedClauses) (o : Operator) (p : ℕ) (events : List Event) (rows : List Item) → is_source part ≡ false → made_by part o p events rows ≡ out o p events
 made_by_other (A.FileSource file strict) o p events rows e = absurd cc
 made_by_other (A.FileSink file) o p events rows e = refl
 made_by_other (A.Filter condition) o p events rows e = refl

@@ -17,3 +17,4 @@ pub mod Planned
 pub mod KeyedNets
 pub mod Pouring
 pub mod Schemas
+pub mod CheckedPaths

@@ -1,7 +1,7 @@
 -- The network of a source, a filter and a sink is wired, and its lists of events are legal and come to their end.
-use Rattle.std.proofs.Common.{ℕ, zero, suc, ◌<◌, true, [], ◌∷◌, ◌≡◌, inl, inr, refl, sym, arith, subst, length, Some, None, slice_get}
+use Rattle.std.proofs.Common.{ℕ, zero, suc, ◌<◌, true, [], ◌∷◌, ◌≡◌, inl, inr, refl, sym, arith, subst, length, Some, None, slice_get, codes}
 use Rattle.stream_model.specs.Operators.{Operator}
-use Rattle.stream_model.specs.PathLaws.{path_source, path_filter, path_sink}
+use Rattle.stream_model.specs.examples.CheckedGraphs.{texts}
 use Rattle.stream_model.proofs.PathLaws.{path_is_ordered, path_is_numbered}
 use Rattle.network_model.specs.Packets.{has_last}
 use Rattle.network_model.specs.Networks.{RegionPart, Splitter, inputs, outputs}
@@ -13,7 +13,7 @@ use Rattle.network_model.specs.Wiring.{PortsFit, PartFits, LinkFits, Fed, Led, I
 use Rattle.network_model.specs.Flow.{IsUnder}
 use Rattle.network_laws.specs.RegionStreams.{RegionsHold}
 use Rattle.stream_model.specs.Meaning.{Meaning}
-use Rattle.network_laws.specs.examples.PathNet.{some_graph, path_net, path_part, path_link, path_list, cut_list, path_rows, no_entries}
+use Rattle.network_laws.specs.examples.PathNet.{file_sink, file_source, plain_filter, some_graph, path_net, path_part, path_link, path_list, cut_list, path_rows, no_entries}
 
 one-port : (op : Operator) → (s : ℕ) → op.outs ≡ s ∷ [] → PortsFit op (0 ∷ [])
 one-port op s e zero p at = let first : 0 ≡ p = cc in subst (λ outs. p < length outs) (sym e) (omega (arith, first))
@@ -21,22 +21,22 @@ one-port op s e (suc o) p at = absurd (cc)
 
 pub parts : (e : ℕ) → e < 3 → PartFits some_graph (path_part e)
 parts zero lt = record {
-  stands = record { before = []; behind = path_filter [] None ∷ path_sink [] [] ∷ []; are = refl };
+  stands = record { before = []; behind = plain_filter ∷ file_sink ∷ []; are = refl };
   reads = refl;
   stream = 0;
   one_stream = refl;
   path = tt;
-  fit = one-port (path_source [] [] true) 0 refl;
+  fit = one-port file_source 0 refl;
 }
 parts (suc zero) lt = record {
-  stands = record { before = path_source [] [] true ∷ []; behind = path_sink [] [] ∷ []; are = refl };
+  stands = record { before = file_source ∷ []; behind = file_sink ∷ []; are = refl };
   no_source = refl;
   reads = omega arith;
   path = tt;
-  fit = one-port (path_filter [] None) 1 refl;
+  fit = one-port plain_filter 1 refl;
 }
 parts (suc (suc n)) lt = record {
-  stands = record { before = path_source [] [] true ∷ path_filter [] None ∷ []; behind = []; are = refl };
+  stands = record { before = file_source ∷ plain_filter ∷ []; behind = []; are = refl };
   no_source = refl;
   reads = omega arith;
   path = tt;
@@ -74,8 +74,8 @@ no_splitter (suc (suc n)) region p = absurd (cc)
 
 pub path_wired : IsWired some_graph path_net
 path_wired = record {
-  ordered = path_is_ordered [] [] true None [];
-  numbered = path_is_numbered [] [] true None [];
+  ordered = path_is_ordered texts (codes "in") true None (codes "out");
+  numbered = path_is_numbered texts (codes "in") true None (codes "out");
   parts = parts;
   links = links;
   led = led;

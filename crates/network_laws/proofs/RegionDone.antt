@@ -1,6 +1,5 @@
 -- What leaves a region, in legal lists, and all of it where the region's elements are done.
-use Rattle.std.proofs.Common.{ℕ, ◌<◌, nat_le, Bool, true, false, cond, List, [], ◌∷◌, ◌++◌, ◌≡◌, ◌⊎◌, inl, inr, refl, sym, ap, ◌∙◌, append-nil, length, map, arith, subst, Some, slice_get}
-use Rattle.std.proofs.lemmas.Bool.{and_parts}
+use Rattle.std.proofs.Common.{ℕ, ◌<◌, Bool, true, false, cond, List, [], ◌∷◌, ◌++◌, ◌≡◌, ◌⊎◌, inl, inr, refl, sym, ap, ◌∙◌, append-nil, map, arith, subst, Some, slice_get}
 use Rattle.spl_value.specs.declared.item.Item.{Item}
 use Rattle.spl_value.specs.declared.packet.Packet.{Packet}
 use Rattle.spl_value.specs.declared.packet.Packet.TheVariants as P

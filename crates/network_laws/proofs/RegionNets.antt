@@ -1,29 +1,30 @@
 -- The network with a region of two channels is wired, its region holds, and its list of events is legal and comes to its end.
-use Rattle.std.proofs.Common.{ℕ, zero, suc, ◌+◌, ◌*◌, ◌<◌, ◌==◌, true, false, [], ◌∷◌, ◌≡◌, inl, inr, refl, sym, ap, ◌∙◌, arith, Some, None, slice_get}
+use Rattle.std.proofs.Common.{ℕ, zero, suc, ◌+◌, ◌*◌, ◌<◌, ◌==◌, true, false, [], ◌∷◌, ◌≡◌, inl, inr, refl, sym, ap, ◌∙◌, arith, Some, None, slice_get, codes}
 use Rattle.std.specs.List.{list_any}
 use Rattle.spl_value.specs.declared.item.Item.{Item}
 use Rattle.spl_value.specs.declared.item.Item.TheVariants as I
 use Rattle.spl_value.specs.Numbered.{items_of, numbers_of, is_pulse, NeverFalls}
-use Rattle.stream_model.specs.PathLaws.{path_source, path_filter, path_sink}
+use Rattle.stream_model.specs.examples.CheckedGraphs.{texts}
 use Rattle.stream_model.proofs.PathLaws.{path_is_ordered, path_is_numbered}
 use Rattle.network_model.specs.Packets.{has_last}
 use Rattle.network_model.specs.Networks.{RegionPart, Splitter, inputs, outputs}
 use Rattle.network_model.specs.Receipts.{popped}
 use Rattle.network_model.specs.States.{State, begin, all_taken, after_all}
 use Rattle.network_model.specs.Legal.{IsLegal, AllDone, Clean}
+use Rattle.network_model.specs.Joined.{lists_of}
 use Rattle.network_model.specs.Wiring.{PartFits, RegionFits, LinkFits, Fed, Led, IsWired}
-use Rattle.network_model.specs.Flow.{channel_flow}
+use Rattle.network_model.specs.Flow.{channel_flow, IsUnder}
 use Rattle.network_laws.specs.RegionStreams.{MergerHolds, RegionsHold}
-use Rattle.network_laws.specs.examples.PathNet.{some_graph}
+use Rattle.network_laws.specs.examples.PathNet.{file_sink, file_source, no_entries, path_rows, plain_filter, some_graph}
 use Rattle.network_laws.specs.examples.RegionNet.{filter_region, region_part, region_link, region_net, region_meaning, region_list}
 use Rattle.network_laws.proofs.PathNets.{parts as path_parts, first-input}
 
 fits : RegionFits some_graph filter_region
 fits = record {
-  op = path_filter [] None;
+  op = plain_filter;
   ops = [];
   are = refl;
-  stands = record { before = path_source [] [] true ∷ []; behind = path_sink [] [] ∷ []; are = refl };
+  stands = record { before = file_source ∷ []; behind = file_sink ∷ []; are = refl };
   no_source = refl;
   reads = refl;
   path = tt;
@@ -108,7 +109,7 @@ led (suc (suc (suc (suc zero)))) o lt within = record { link = 5; within = omega
 led (suc (suc (suc (suc (suc n))))) o lt within = absurd (omega (arith, within))
 
 pub region_wired : IsWired some_graph region_net
-region_wired = record { ordered = path_is_ordered [] [] true None []; numbered = path_is_numbered [] [] true None []; parts = parts; links = links; led = led; fed = fed; one = one; one_splitter = λ e d region a b p q. at_one e region p ∙ sym (at_one d region q) }
+region_wired = record { ordered = path_is_ordered texts (codes "in") true None (codes "out"); numbered = path_is_numbered texts (codes "in") true None (codes "out"); parts = parts; links = links; led = led; fed = fed; one = one; one_splitter = λ e d region a b p q. at_one e region p ∙ sym (at_one d region q) }
 
 -- ---- the region
 
@@ -245,3 +246,12 @@ region_done (suc (suc (suc (suc zero)))) lt = record { inputs_end = both; source
     both (suc (suc i)) within = absurd (omega (arith, within))
 region_done (suc (suc (suc (suc (suc zero))))) lt = record { inputs_end = λ i within. first-input i (after_all region_net begin region_list) 5 within refl; source_ends = λ s. absurd (cc); pushed = refl }
 region_done (suc (suc (suc (suc (suc (suc n)))))) lt = absurd (omega (arith, lt))
+
+pub region_under : IsUnder region_net (lists_of region_net (after_all region_net begin region_list)) path_rows no_entries
+region_under zero lt = (([], refl), refl)
+region_under (suc zero) lt = tt
+region_under (suc (suc zero)) lt = tt
+region_under (suc (suc (suc zero))) lt = tt
+region_under (suc (suc (suc (suc zero)))) lt = tt
+region_under (suc (suc (suc (suc (suc zero))))) lt = λ several. absurd (cc)
+region_under (suc (suc (suc (suc (suc (suc n)))))) lt = absurd (omega (arith, lt))

@@ -1,3 +1,4 @@
 pub mod PathNet
 pub mod RegionNet
 pub mod KeyedNet
+pub mod CheckedPath

@@ -1,21 +1,33 @@
 -- A network of a source, a filter and a sink, each an element of its own, with a legal list of events that comes to its
 -- end, and one that is cut.
-use Rattle.std.specs.Prelude.{ℕ, zero, suc, true, List, [], ◌∷◌, None}
+use Rattle.std.specs.Prelude.{ℕ, zero, suc, true, List, [], ◌∷◌, None, codes}
 use Rattle.spl_value.specs.declared.item.Item.TheVariants as I
 use Rattle.spl_value.specs.declared.packet.Packet.{Packet}
 use Rattle.spl_value.specs.declared.packet.Packet.TheVariants as P
+use Rattle.stream_model.specs.Operators.{Operator}
 use Rattle.stream_model.specs.Meaning.{Graph, Lists, Entries}
 use Rattle.stream_model.specs.PathLaws.{path_source, path_filter, path_sink, path_graph}
+use Rattle.stream_model.specs.examples.CheckedGraphs.{texts}
 use Rattle.network_model.specs.Networks.{Part, FromSource, FromLinks, Link, Net}
 use Rattle.network_model.specs.Events.{Read, Pop, Push, Occurrence, Happens, Cuts}
 
+-- their streams are of texts, and the filter has no condition
+abbrev pub file_source : Operator
+file_source = path_source texts (codes "in") true
+
+abbrev pub plain_filter : Operator
+plain_filter = path_filter texts None
+
+abbrev pub file_sink : Operator
+file_sink = path_sink texts (codes "out")
+
 abbrev pub some_graph : Graph
-some_graph = path_graph [] [] true None []
+some_graph = path_graph texts (codes "in") true None (codes "out")
 
 abbrev pub path_part : ℕ → Part
-path_part zero = FromSource (path_source [] [] true) [] (0 ∷ [])
-path_part (suc zero) = FromLinks (path_filter [] None) [] (0 ∷ [])
-path_part (suc (suc n)) = FromLinks (path_sink [] []) [] []
+path_part zero = FromSource file_source [] (0 ∷ [])
+path_part (suc zero) = FromLinks plain_filter [] (0 ∷ [])
+path_part (suc (suc n)) = FromLinks file_sink [] []
 
 abbrev pub path_link : ℕ → Link
 path_link zero = record { from = 0; output = 0; to = 1; input = 0 }

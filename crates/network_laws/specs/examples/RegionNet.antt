@@ -1,29 +1,26 @@
 -- The same source, filter and sink, where the filter is a region of two channels that merges by turns.
-use Rattle.std.specs.Prelude.{ℕ, zero, suc, true, List, [], ◌∷◌, None}
+use Rattle.std.specs.Prelude.{ℕ, zero, suc, List, [], ◌∷◌}
 use Rattle.spl_value.specs.declared.item.Item.TheVariants as I
 use Rattle.spl_value.specs.declared.packet.Packet.TheVariants as P
 use Rattle.spl_value.specs.declared.routing.Routing.TheVariants as R
 use Rattle.spl_value.specs.Numbered.{ByTurns}
-use Rattle.stream_model.specs.declared.plan.Merge.TheVariants as M
-use Rattle.stream_model.specs.declared.plan.Region.{Region}
 use Rattle.stream_model.specs.Meaning.{Meaning, meaning}
-use Rattle.stream_model.specs.PathLaws.{path_source, path_filter, path_sink}
 use Rattle.network_model.specs.Networks.{RegionPart, Part, FromSource, FromLinks, Splitter, Replica, Merger, Link, Net}
 use Rattle.network_model.specs.Events.{Read, Pop, Push, Occurrence, Happens}
-use Rattle.network_laws.specs.examples.PathNet.{some_graph, final, path_rows, no_entries}
+use Rattle.network_laws.specs.examples.PathNet.{file_sink, file_source, final, no_entries, path_rows, plain_filter, some_graph}
 
 abbrev pub filter_region : RegionPart
 filter_region =
-    record { entry = 0; exit = 1; ops = path_filter [] None ∷ []; routing = R.Turns; rule = ByTurns; width = 2 }
+    record { entry = 0; exit = 1; ops = plain_filter ∷ []; routing = R.Turns; rule = ByTurns; width = 2 }
 
 -- a source, a splitter, two replicas, a merger and a sink
 abbrev pub region_part : ℕ → Part
-region_part zero = FromSource (path_source [] [] true) [] (0 ∷ [])
+region_part zero = FromSource file_source [] (0 ∷ [])
 region_part (suc zero) = Splitter filter_region
 region_part (suc (suc zero)) = Replica filter_region 0
 region_part (suc (suc (suc zero))) = Replica filter_region 1
 region_part (suc (suc (suc (suc zero)))) = Merger filter_region (0 ∷ [])
-region_part (suc (suc (suc (suc (suc n))))) = FromLinks (path_sink [] []) [] []
+region_part (suc (suc (suc (suc (suc n))))) = FromLinks file_sink [] []
 
 abbrev pub region_link : ℕ → Link
 region_link zero = record { from = 0; output = 0; to = 1; input = 0 }
@@ -49,7 +46,3 @@ region_list =
     ∷ Happens (Pop 1 final) ∷ Happens (Push 3 final) ∷ Happens (Pop 1 P.Close) ∷ Happens (Push 3 P.Close)
     ∷ Happens (Pop 3 final) ∷ Happens (Push 5 final) ∷ Happens (Push 5 P.Close) ∷ Happens (Pop 3 P.Close)
     ∷ Happens (Pop 5 final) ∷ Happens (Pop 5 P.Close) ∷ []
-
--- its plan
-abbrev pub filter_plan : Region
-filter_plan = record { ops = 1 ∷ []; key = []; merge = M.Turns }

@@ -1,4 +1,5 @@
 use Rattle.network_laws.proofs.PathNets.{path_wired, path_regions, path_legal, path_done, path_clean, path_under, cut_legal, cut_done, cut_under}
+use Rattle.network_laws.proofs.CheckedPaths.{path_runs}
 use Rattle.network_laws.proofs.literals.networks_on_literals.Goals as goal
 
 pub returns-clause-wired : goal.returns-clause-wired
@@ -27,3 +28,6 @@ returns-clause-cut_done c = cut_done
 
 pub returns-clause-cut_under : goal.returns-clause-cut_under
 returns-clause-cut_under c = cut_under
+
+pub returns-clause-runs : goal.returns-clause-runs
+returns-clause-runs c = path_runs
