@@ -53,13 +53,13 @@ WholeLaw = (g : Graph) (net : Net) (lists : NetworkLists) (rows : Lists) (entrie
     → (e : ℕ) (op : Operator) (ops : List Operator) (outs : List ℕ) → e < net.size → net.part e ≡ FromLinks op ops outs
     → is_whole op (lists_at (meaning g rows entries).streams (connections op)) (lists.taken e).entries ≡ true
 
--- so it is of settled lists
+-- in settled lists, what the merger of each region merges is all of the stream that the region makes
 abbrev pub MeetLaw : Type 0
 MeetLaw = (g : Graph) (net : Net) (lists : NetworkLists) (rows : Lists) (entries : Entries) → IsWired g net
     → RegionsHold net (meaning g rows entries) → Settled net lists
     → IsUnder net lists rows entries → RegionsMeet net (meaning g rows entries)
 
--- then the flow of a link is its stream
+-- where it is, the flow of each link that carries a stream is that stream
 abbrev pub FlowLaw : Type 0
 FlowLaw = (g : Graph) (net : Net) (rows : Lists) (entries : Entries) → IsWired g net
     → RegionsMeet net (meaning g rows entries)

@@ -28,7 +28,7 @@ pub record RunsPlan (c : CheckedGraph) (plan : List Region) (width : ℕ) (net :
   pub wired : IsWired (graph_of c) net
   pub planned : IsPlanned (graph_of c) plan width net
 
--- that into which it is fused does
+-- the network into which a checked program is fused runs it so
 abbrev pub FusedRuns : Type 0
 FusedRuns = (c : CheckedGraph) (plan : List Region) (width capacity : ℕ) → Keeps c → IsPlan (graph_of c) plan
     → RunsPlan c plan width (fused_net (graph_of c) plan width capacity)

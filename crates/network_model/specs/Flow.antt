@@ -17,12 +17,14 @@ use Rattle.stream_model.specs.Chains.{passed}
 use Rattle.network_model.specs.Owed.{send_all, region_splits, replica_owes}
 use Rattle.network_model.specs.Joined.{NetworkLists}
 
--- what a merger takes on each channel below the width, where every replica has taken all that is owed to it
+-- what the merger of a region takes on each channel below the width, where the splitter has taken all of the stream that
+-- enters the region, and each replica all that the splitter sends to it
 abbrev pub channel_flow : RegionPart → Meaning → ℕ → List Packet
 channel_flow region m c = if nat_lt c region.width then replica_owes region (m.streams region.entry) c else []
 
--- what an element owes once every chain has taken its events in the meaning, and every splitter, replica and merger all
--- that is owed to it
+-- What an element owes where every chain has taken its events in the meaning, and the elements of every region have taken
+-- what the whole stream that enters it sends through the region. Under records that aren't whole the merger of a region may
+-- give no more than a front of its stream; a region that reads this merger is taken to have the stream all the same.
 abbrev pub flows : Lists → Meaning → Part → List Outgoing
 flows rows m (FromSource source ops outs) = send_all outs (passed (map start ops) (map (output 0) (rows source.number)))
 flows rows m (FromLinks op ops outs) =
@@ -32,7 +34,7 @@ flows rows m (Replica region channel) = map (outgoing 0) (replica_owes region (m
 flows rows m (Merger region outs) =
     send_all outs (map (output 0) (merged region.rule region.width (channel_flow region m)))
 
--- what is owed to it at an input
+-- what an element has taken then at each input
 abbrev pub expects : Meaning → Part → ℕ → List Packet
 expects m (FromSource source ops outs) i = []
 expects m (FromLinks op ops outs) i = packets_of (lists_at m.streams (connections op) i)
@@ -42,6 +44,7 @@ expects m (Replica region channel) zero = on_output channel (region_splits regio
 expects m (Replica region channel) (suc i) = []
 expects m (Merger region outs) i = channel_flow region m i
 
+-- what a link carries: what its sender owes on it then
 abbrev pub flow : Net → Lists → Meaning → ℕ → List Packet
 flow net rows m l = on_output (net.link l).output (flows rows m (net.part (net.link l).from))
 
@@ -49,8 +52,9 @@ flow net rows m l = on_output (net.link l).output (flows rows m (net.part (net.l
 abbrev pub carried : Net → Lists → Meaning → ℕ → ℕ
 carried net rows m l = besides_close (flow net rows m l)
 
--- The rows of a meaning begin with the items that a source has read, and its records are those of the chains whose
--- first operator has several connections; one with a single connection has none in a meaning.
+-- The rows of each source in the meaning begin with the items that the source has read. The record in the meaning of an
+-- operator with several connections, which begins a chain, is that of the chain. An operator with a single connection has
+-- a record in the network alone, and the meaning doesn't look at it.
 abbrev pub IsUnderAt : Part → Taken → Lists → Entries → Type 0
 IsUnderAt (FromSource source ops outs) t rows entries =
     IsPrefix t.items (rows source.number) × (is_stream (rows source.number) ≡ true)

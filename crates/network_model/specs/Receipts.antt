@@ -35,8 +35,8 @@ item_events [] = []
 item_events (Popped i packet ∷ receipts) = event_first i packet (item_events receipts)
 item_events (WasRead item ∷ receipts) = item_events receipts
 
--- what an element has taken, as far as it owes for it: the packets at each input, the items of its source, and of a
--- chain the record: the inputs of its events, in their order
+-- what an element has taken: the packets at each input and the items of its source; and the record of a chain that reads
+-- links, which has the input of each item that the chain's first operator took, in the order of taking
 pub record Taken : Type 0 where
   pub packets : ℕ → List Packet
   pub items : List Item

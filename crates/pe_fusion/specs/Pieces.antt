@@ -11,7 +11,8 @@ use Rattle.pe_fusion.specs.Readers.{readers}
 
 -- ---- regions
 
--- a region runs in replicas where its own width is 2 at least. At width 1 its operators are fused as any others
+-- A region runs in replicas where its own width is at least 2. Where it is less, the region's operators are fused as if they
+-- stood in no region.
 abbrev pub is_replicated : ℕ → Region → Bool
 is_replicated width region = nat_lt 1 (width_of region width)
 
