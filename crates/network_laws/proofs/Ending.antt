@@ -26,7 +26,8 @@ use Rattle.network_model.specs.PartLaws.{IsPart}
 use Rattle.network_laws.specs.Shaped.{IsNet}
 use Rattle.network_laws.specs.Flowing.{LegalAreInProgress, LegalJoins}
 use Rattle.network_laws.proofs.Flowing.{recorded-moves, binds-at}
-use Rattle.network_model.proofs.Packets.{front-trans, front-on_output, front-without_cut, without_cut-append, on_output-append, stops-end, stops-front}
+use Rattle.stream_model.proofs.Outputs.{on_output-append}
+use Rattle.network_model.proofs.Packets.{front-trans, front-on_output, front-without_cut, without_cut-append, stops-end, stops-front}
 use Rattle.network_model.proofs.Arrivals.{arrive-own, front_to_end}
 use Rattle.network_model.proofs.Receipts.{popped-append, came_on-items, front-inputs, own-front, entries-found}
 use Rattle.network_laws.proofs.Keeping.{taken-at, KeepsElement, KeepsWhole, KeepsCut}

@@ -1,14 +1,14 @@
 -- What went over the links of joined lists, element by element in topological order.
-use Rattle.std.proofs.Common.{ℕ, zero, suc, ◌+◌, ◌<◌, nat_lt, Bool, true, false, List, [], ◌∷◌, ◌++◌, ◌≡◌, ◌⊎◌, refl, sym, ap, ◌∙◌, append-nil, length, length-append, map, arith, inl, inr}
-use Rattle.std.specs.List.{concat, list_all}
+use Rattle.std.proofs.Common.{ℕ, zero, suc, ◌<◌, nat_lt, Bool, true, false, List, [], ◌∷◌, ◌++◌, ◌≡◌, ◌⊎◌, refl, sym, ap, ◌∙◌, append-nil, length, arith, inl, inr}
+use Rattle.std.specs.List.{list_all}
 use Rattle.std.proofs.lemmas.Bool.{cases_lt, ltb-true, and_parts}
 use Rattle.stream_model.specs.Arrivals.{has_several}
-use Rattle.std.proofs.lemmas.List.{length-map}
+use Rattle.list_engine.proofs.Ports.{input_count}
 use Rattle.spl_value.specs.declared.packet.Packet.{Packet}
 use Rattle.spl_value.specs.declared.packet.Packet.TheVariants as P
 use Rattle.spl_value.specs.Numbered.{stops_once}
 use Rattle.stream_model.specs.Stream.{IsPrefix}
-use Rattle.stream_model.specs.Operators.{Operator, connections, ports, ports_from}
+use Rattle.stream_model.specs.Operators.{Operator, connections, ports}
 use Rattle.stream_model.specs.Meaning.{Lists, Entries, Meaning, lists_at}
 use Rattle.stream_model.specs.parts.Records.{finds_items}
 use Rattle.stream_model.specs.Sending.{on_output}
@@ -23,14 +23,6 @@ use Rattle.network_model.specs.PartLaws.{IsLess, IsPart}
 use Rattle.network_laws.specs.Flowing.{entries_for, full, IsFlowing, ProgressFlowLaw, SettledFlowLaw, JoinedAreInProgress}
 use Rattle.network_model.proofs.Packets.{front-trans, front-same, front-left, front-on_output, front-items, front-without_cut, items_in-without_cut, items_in-packets_of, without_cut-append, stops-end}
 use Rattle.network_model.proofs.Arrivals.{zeros-front}
-
-pub length-ports : (p : ℕ) (ins : List (List ℕ)) → length (ports_from p ins) ≡ length (concat ins)
-length-ports p [] = refl
-length-ports p (streams ∷ ins) =
-    let rest : length (ports_from (suc p) ins) ≡ length (concat ins) = length-ports (suc p) ins in
-    length-append (map (λ s. p) streams) (ports_from (suc p) ins)
-    ∙ (λ k. length-map streams (λ s. p) k + rest k)
-    ∙ sym (length-append streams (concat ins))
 
 pub recorded-moves : (part : Part) (t : Taken) (cut : Bool) → Recorded part t cut → Recorded part t true
 recorded-moves (FromSource source ops outs) t cut r = r
@@ -97,11 +89,11 @@ entries-less m op ops outs entries t cut recorded under packets = go (connection
   where
     go : (conns : List ℕ) → connections op ≡ conns → IsPrefix t.entries (entries_for conns m.streams entries)
     go [] e =
-        let none_taken : length (ports op) ≡ 0 = length-ports 0 op.ins ∙ ap length e in
+        let none_taken : length (ports op) ≡ 0 = input_count op ∙ ap length e in
         let empty : t.entries ≡ [] = none-named t.entries (ap (λ n. list_all (λ i. nat_lt i n) t.entries) (sym none_taken) ∙ recorded.named) in
         (entries, ap (λ z. z ++ entries) empty)
     go (s ∷ []) e =
-        let one : length (ports op) ≡ 1 = length-ports 0 op.ins ∙ ap length e in
+        let one : length (ports op) ≡ 1 = input_count op ∙ ap length e in
         let expected : expects m (FromLinks op ops outs) 0 ≡ packets_of (m.streams s) = ap (λ zs. packets_of (lists_at m.streams zs 0)) e in
         zeros-front t.entries (item_lists t) (m.streams s) (ap (λ n. list_all (λ i. nat_lt i n) t.entries) (sym one) ∙ recorded.named) recorded.found
         (front-left (item_lists t 0) (items_in (without_cut (t.packets 0))) (m.streams s) (items_in (without_cut (expects m (FromLinks op ops outs) 0)))

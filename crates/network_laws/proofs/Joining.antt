@@ -3,6 +3,7 @@ use Rattle.std.proofs.Common.{ℕ, zero, suc, ◌<◌, nat_lt, true, List, [], �
 use Rattle.std.proofs.lemmas.Bool.{cond-true, lt-ltb}
 use Rattle.std.proofs.Math.Path.{fun_ext}
 use Rattle.std.proofs.lemmas.Option.{slice_get_within}
+use Rattle.list_engine.proofs.Ports.{input_count}
 use Rattle.spl_value.specs.declared.item.Item.{Item}
 use Rattle.spl_value.specs.declared.packet.Packet.{Packet}
 use Rattle.spl_value.specs.Numbered.{merged, stops_once, InOrder}
@@ -32,7 +33,7 @@ use Rattle.network_model.proofs.Sending.{on_output-send_all}
 use Rattle.network_model.proofs.Chains.{on_port-outputs}
 use Rattle.network_model.proofs.RegionParts.{split-stops, split-without_cut, channel-clean, channel-stops, on_output-map}
 use Rattle.network_laws.proofs.Meanings.{source-gives, operator-gives, passed-gives, full-events}
-use Rattle.network_laws.proofs.Flowing.{length-ports, joined_are_in_progress, flow-front, flow-all, flow-ends}
+use Rattle.network_laws.proofs.Flowing.{joined_are_in_progress, flow-front, flow-all, flow-ends}
 use Rattle.network_laws.proofs.Wholeness.{closed-packets}
 
 -- ---- ends of links
@@ -48,7 +49,7 @@ connected-input : (part : Part) (i s : ℕ) → Connects part i s → i < inputs
 connected-input (FromSource source ops outs) i s c = absurd c
 connected-input (FromLinks op ops outs) i s c =
     let within : i < length (connections op) = slice_get_within (connections op) i s c in
-    let same : length (ports op) ≡ length (connections op) = length-ports 0 op.ins in
+    let same : length (ports op) ≡ length (connections op) = input_count op in
     omega (arith, within, same)
 connected-input (Splitter region) i s c = let first : i ≡ 0 = c.0 in omega (arith, first)
 connected-input (Replica region channel) i s c = absurd c
@@ -256,7 +257,7 @@ replica-at net l region channel k is = go k.ends
     go (inr (inl r)) = let same : Replica r.region (net.link l).output ≡ Replica region channel = sym r.to ∙ is in (r, cc)
     go (inr (inr r)) = let clash : Merger r.region r.outs ≡ Replica region channel = sym r.to ∙ is in absurd (cc)
 
-splitter-at : (net : Net) (l : ℕ) (region : RegionPart) → LinkFits net l → net.part (net.link l).to ≡ Splitter region → (s : StreamLink net l) × (region.entry ≡ s.stream)
+pub splitter-at : (net : Net) (l : ℕ) (region : RegionPart) → LinkFits net l → net.part (net.link l).to ≡ Splitter region → (s : StreamLink net l) × (region.entry ≡ s.stream)
 splitter-at net l region k is = go k.ends
   where
     go : StreamLink net l ⊎ (ReplicaLink net l ⊎ MergerLink net l) → (s : StreamLink net l) × (region.entry ≡ s.stream)

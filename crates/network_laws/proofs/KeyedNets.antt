@@ -21,7 +21,7 @@ use Rattle.region_laws.proofs.RegionFronts.{region_front_law, region_whole_law}
 use Rattle.network_laws.specs.RegionStreams.{RegionsHold}
 use Rattle.network_laws.specs.RegionLaws.{HasRegionLaw, RegionsObey}
 use Rattle.network_laws.specs.examples.KeyedNet.{keyed_source, keyed_filter, keyed_sums, keyed_sink, keyed_region, keyed_part, keyed_net}
-use Rattle.network_laws.proofs.RegionNets.{region_wired}
+use Rattle.network_laws.proofs.RegionNets.{first-port, region_wired}
 use Rattle.network_laws.proofs.RegionSends.{holds_law}
 
 -- ---- the graph
@@ -44,10 +44,6 @@ numbered (suc (suc (suc zero))) op e = let same : keyed_sink ≡ op = cc in ap (
 numbered (suc (suc (suc (suc n)))) op e = absurd cc
 
 -- ---- the network
-
-first-port : (o p : ℕ) → slice_get (0 ∷ []) o ≡ Some p → p ≡ 0
-first-port zero p e = let same : 0 ≡ p = cc in sym same
-first-port (suc o) p e = absurd (cc)
 
 fits : RegionFits filtered_sums keyed_region
 fits = record {

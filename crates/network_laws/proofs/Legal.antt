@@ -15,7 +15,8 @@ use Rattle.network_model.specs.Events.{Read, Pop, Push, Occurrence, Happens, Lac
 use Rattle.network_model.specs.States.{At, all_taken, cuts_from, cut_off, drops, keeps, is_cut_receipt, takes, lacks, puts, State, begin, put, after, after_all}
 use Rattle.network_model.specs.Legal.{MayPop, MayPush, May, Legal}
 use Rattle.network_laws.specs.Shaped.{IsNet}
-use Rattle.network_model.proofs.Packets.{on_output-append, is_stream-append}
+use Rattle.stream_model.proofs.Outputs.{on_output-append}
+use Rattle.network_model.proofs.Packets.{is_stream-append}
 use Rattle.network_model.proofs.Receipts.{popped-append, read_in-append}
 use Rattle.network_laws.proofs.Keeping.{KeepsElement, IsFair, keep-new, keep-puts, keep-takes, keep-lacks, keep-cut_off}
 

@@ -3,15 +3,14 @@ use Rattle.std.proofs.Common.{ℕ, ◌==◌, nat_lt, not, Bool, true, false, con
 use Rattle.std.specs.List.{concat}
 use Rattle.std.proofs.Math.Path.{fun_ext}
 use Rattle.std.proofs.lemmas.Bool.{eq-eqb}
+use Rattle.list_engine.proofs.Operators.{made_by_other, made_by_source}
 use Rattle.spl_value.specs.declared.item.Item.{Item}
-use Rattle.language_model.specs.declared.checked.CheckedClauses.{CheckedClauses}
-use Rattle.language_model.specs.declared.checked.CheckedClauses.TheVariants as A
 use Rattle.language_model.specs.declared.outs.Output.{Output}
 use Rattle.stream_model.specs.Stream.{Event, came}
 use Rattle.stream_model.specs.Operators.{Operator}
 use Rattle.stream_model.specs.Bodies.{output}
 use Rattle.stream_model.specs.Stages.{start, gives_all, on_port, out}
-use Rattle.stream_model.specs.Meaning.{Graph, Lists, Entries, taking, arrive, lists_at, events_at, events_of, made_by, makes, meaning, in_topo}
+use Rattle.stream_model.specs.Meaning.{Graph, Lists, Entries, taking, arrive, lists_at, events_at, events_of, makes, meaning, in_topo}
 use Rattle.stream_model.specs.Laws.{IsOrdered}
 use Rattle.stream_model.proofs.parts.Meaning.{with_list}
 use Rattle.stream_model.proofs.Graphs.{graph_law}
@@ -25,30 +24,6 @@ use Rattle.network_model.proofs.Packets.{items_in-packets_of}
 use Rattle.network_model.proofs.Chains.{on_port-outputs}
 
 -- ---- one operator
-
-pub made_by-op : (clauses : CheckedClauses) (op : Operator) (p : ℕ) (events : List Event) (rows : List Item) → is_source clauses ≡ false → made_by clauses op p events rows ≡ out op p events
-made_by-op (A.FileSource file strict) op p events rows h = absurd (cc)
-made_by-op (A.FileSink file) op p events rows h = refl
-made_by-op (A.Filter condition) op p events rows h = refl
-made_by-op (A.Functor condition made) op p events rows h = refl
-made_by-op (A.Punctor condition position) op p events rows h = refl
-made_by-op (A.Split index) op p events rows h = refl
-made_by-op (A.Union places) op p events rows h = refl
-made_by-op (A.Custom handlers) op p events rows h = refl
-made_by-op (A.Aggregate window partition group collects) op p events rows h = refl
-made_by-op (A.Join left right condition made) op p events rows h = refl
-
-made_by-source : (clauses : CheckedClauses) (op : Operator) (p : ℕ) (events : List Event) (rows : List Item) → is_source clauses ≡ true → made_by clauses op p events rows ≡ rows
-made_by-source (A.FileSource file strict) op p events rows h = refl
-made_by-source (A.FileSink file) op p events rows h = absurd (cc)
-made_by-source (A.Filter condition) op p events rows h = absurd (cc)
-made_by-source (A.Functor condition made) op p events rows h = absurd (cc)
-made_by-source (A.Punctor condition position) op p events rows h = absurd (cc)
-made_by-source (A.Split index) op p events rows h = absurd (cc)
-made_by-source (A.Union places) op p events rows h = absurd (cc)
-made_by-source (A.Custom handlers) op p events rows h = absurd (cc)
-made_by-source (A.Aggregate window partition group collects) op p events rows h = absurd (cc)
-made_by-source (A.Join left right condition made) op p events rows h = absurd (cc)
 
 -- the one stream of an operator stands at port 0
 pub position-one : (s : ℕ) → position (λ t. t == s) (s ∷ []) ≡ Some 0
@@ -77,7 +52,7 @@ module _ (g : Graph) (rows : Lists) (entries : Entries) (ordered : IsOrdered (in
       → GivesStreams op (gives_all (start op) events)
   operator-gives op events stands none same p s at =
       same p
-      ∙ sym (made_by-op op.clauses op p (events_of op (meaning g rows entries).streams (entries op.number)) (rows op.number) none)
+      ∙ sym (made_by_other op.clauses op p (events_of op (meaning g rows entries).streams (entries op.number)) (rows op.number) none)
       ∙ sym (made-at op stands p s at)
 
   pub source-gives : (source : Operator) (stream : ℕ) → Stands g source → is_source source.clauses ≡ true → source.outs ≡ stream ∷ []
@@ -86,7 +61,7 @@ module _ (g : Graph) (rows : Lists) (entries : Entries) (ordered : IsOrdered (in
       let first : p ≡ 0 = at-one stream p s (ap (λ outs. position (λ t. t == s) outs) (sym one) ∙ at) in
       ap (λ q. on_port q (map (output 0) (rows source.number))) first
       ∙ on_port-outputs 0 (rows source.number)
-      ∙ sym (made_by-source source.clauses source p (events_of source (meaning g rows entries).streams (entries source.number)) (rows source.number) reads)
+      ∙ sym (made_by_source source.clauses source p (events_of source (meaning g rows entries).streams (entries source.number)) (rows source.number) reads)
       ∙ sym (made-at source stands p s at)
 
   -- and so on along a chain
@@ -97,7 +72,7 @@ module _ (g : Graph) (rows : Lists) (entries : Entries) (ordered : IsOrdered (in
       (λ p s at.
       ap (λ (items : List Item). out next p (map (came 0) items)) (gives 0 path.0 (ap (position (λ t. t == path.0)) path.1 ∙ position-one path.0))
       ∙ ap (λ ins. out next p (events_at (meaning g rows entries).streams (concat ins) (entries next.number))) (sym path.2)
-      ∙ sym (made_by-op next.clauses next p (events_of next (meaning g rows entries).streams (entries next.number)) (rows next.number) path.4)
+      ∙ sym (made_by_other next.clauses next p (events_of next (meaning g rows entries).streams (entries next.number)) (rows next.number) path.4)
       ∙ sym (made-at next path.3 p s at))
 
 -- ---- all that a chain takes in the meaning

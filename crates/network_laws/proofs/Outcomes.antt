@@ -5,6 +5,7 @@ use Rattle.std.proofs.Math.Path.{fun_ext}
 use Rattle.std.specs.Prelude.{filter, not}
 use Rattle.std.proofs.lemmas.Bool.{cases_lt}
 use Rattle.std.proofs.lemmas.List.Elements.{filter-append}
+use Rattle.list_engine.proofs.Ports.{input_count}
 use Rattle.spl_value.specs.declared.packet.Packet.{Packet}
 use Rattle.spl_value.specs.Numbered.{is_close, closes}
 use Rattle.spl_value.specs.declared.item.Item.{Item}
@@ -37,7 +38,7 @@ use Rattle.network_laws.specs.LegalLaws.{PlainLaw, LegalLaw, MomentLaw}
 use Rattle.network_model.proofs.Packets.{front-map, items_in-packets_of}
 use Rattle.network_model.proofs.Chains.{front-on_port, front-gives_all, front-passed, front-arrive}
 use Rattle.network_laws.proofs.Meanings.{GivesStreams, operator-gives, source-gives, position-one, full-events}
-use Rattle.network_laws.proofs.Flowing.{owed-flow, length-ports, joined_are_in_progress, less-at, taken-all}
+use Rattle.network_laws.proofs.Flowing.{owed-flow, joined_are_in_progress, less-at, taken-all}
 use Rattle.network_laws.proofs.Joining.{wired-net, wired-flowing, all-meet, settled-meets, progress-links}
 use Rattle.network_laws.proofs.Wholeness.{recorded-ends, recorded-whole, closed-packets}
 use Rattle.network_laws.proofs.Legal.{NetKeeps, keep-begin, keep-all}
@@ -160,10 +161,10 @@ module _ (g : Graph) (net : Net) (lists : NetworkLists) (rows : Lists) (entries 
       → lists_at (meaning g rows entries).streams (connections op) ≡ item_lists (lists.taken e)
   inputs-are e op ops outs lt is = fun_ext (λ i. elim (cases_lt i (length (connections op))) [
     | inl within ↦
-        let same : length (ports op) ≡ length (connections op) = length-ports 0 op.ins in
+        let same : length (ports op) ≡ length (connections op) = input_count op in
         sym (items_in-packets_of (lists_at (meaning g rows entries).streams (connections op) i)) ∙ ap items_in (sym (inputs-at e op ops outs lt is i (omega (arith, within, same))).0)
     | inr past ↦
-        let same : length (ports op) ≡ length (connections op) = length-ports 0 op.ins in
+        let same : length (ports op) ≡ length (connections op) = input_count op in
         let count : inputs (net.part e) ≡ length (ports op) = ap inputs is in
         lists_at-past (meaning g rows entries).streams (connections op) i past
         ∙ ap items_in (sym ((settled.joined.elements e lt).no_others i (omega (arith, past, same, count))))

@@ -22,17 +22,11 @@ use Rattle.network_model.specs.States.{At, State, begin, all_taken, put, happens
 use Rattle.network_model.specs.Legal.{wants, Enabled, Legal}
 use Rattle.network_model.specs.Draws.{draw, next_draw}
 use Rattle.network_model.specs.Picking.{Choice, ReadAt, PopAt, PushAt, choice_of, may_read, may_pop, may_happen, front_for, choices, enabled_choices, event_at, drawn, picked_from}
+use Rattle.network_model.proofs.Packets.{empty-nil}
 use Rattle.network_model.proofs.Receipts.{read_in-append}
+use Rattle.spl_value.proofs.SegmentLaws.{not_true}
 use Rattle.network_laws.specs.PickedLaws.{ChosenLaw, PickedLaw, EnabledLaw, EventLaw, NoneLaw, ShortLaw}
 use Rattle.network_laws.proofs.RegionSends.{closed-cut}
-
-none : {A : Type 0} (xs : List A) → is_empty xs ≡ true → xs ≡ []
-none [] h = refl
-none (x ∷ xs) h = absurd (cc)
-
-not-true : (b : Bool) → not b ≡ true → b ≡ false
-not-true true h = absurd (cc)
-not-true false h = refl
 
 either : (b c : Bool) → (b || c) ≡ true → (b ≡ true) ⊎ (c ≡ true)
 either true c h = inl refl
@@ -60,10 +54,10 @@ reads-enabled net st e x h =
     let fourth = and_parts (not (st e).cut) (not (any_closes (read_in (st e).kept))) third.1 in
     record {
       element = ltb-true e net.size first.0;
-      idle = none (st e).outbox second.0;
+      idle = empty-nil (st e).outbox second.0;
       sourced = third.0;
-      whole = not-true (st e).cut fourth.0;
-      is_open = not-true (any_closes (read_in (st e).kept)) fourth.1;
+      whole = not_true (st e).cut fourth.0;
+      is_open = not_true (any_closes (read_in (st e).kept)) fourth.1;
     }
 
 pops-enabled : (net : Net) (st : State) (l : ℕ) (p : Packet) → may_happen net st (PopAt l) ≡ true → slice_get (pushed_on net st l) (length (popped_from net st l)) ≡ Some p → Enabled net st (Pop l p)
@@ -77,9 +71,9 @@ pops-enabled net st l p h front =
     let third = and_parts (not (has_last (popped i (all_taken a)))) (a.cut || wants part (taken_of part a.kept) i) second.1 in
     record {
       link = ltb-true l net.links first.0;
-      idle = none a.outbox second.0;
+      idle = empty-nil a.outbox second.0;
       front = front;
-      is_open = not-true (has_last (popped i (all_taken a))) third.0;
+      is_open = not_true (has_last (popped i (all_taken a))) third.0;
       wanted = either a.cut (wants part (taken_of part a.kept) i) third.1;
     }
 

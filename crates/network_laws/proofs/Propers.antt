@@ -29,11 +29,11 @@ use Rattle.network_laws.specs.Shaped.{IsNet}
 use Rattle.network_laws.specs.Flowing.{IsFlowing}
 use Rattle.network_laws.specs.RegionStreams.{RegionHolds, RegionsHold}
 use Rattle.network_laws.specs.Propers.{StreamProper, JoinedProper, LegalProper}
-use Rattle.network_model.proofs.Packets.{without_cut-packets_of, front-left, front-items, front-on_output, on_output-append, items_in-without_cut, items_in-packets_of, no_length, stops-front}
+use Rattle.stream_model.proofs.Outputs.{on_output-append}
+use Rattle.network_model.proofs.Packets.{without_cut-packets_of, front-left, front-items, front-on_output, items_in-without_cut, items_in-packets_of, no_length, stops-front}
 use Rattle.network_model.proofs.Sending.{on_output-send_all}
 use Rattle.network_model.proofs.Chains.{front-stream, on_port-outputs}
 use Rattle.network_model.proofs.RegionParts.{items_of-without_cut}
-use Rattle.network_model.proofs.Merging.{falls-front}
 use Rattle.network_laws.proofs.Flowing.{joined_are_in_progress, flow-front, flow-stops, binds-at}
 use Rattle.network_laws.proofs.Joining.{wired-net, wired-flowing, flow-at, from-within}
 use Rattle.network_laws.proofs.Keeping.{taken-at, KeepsElement, KeepsCut}
@@ -111,6 +111,10 @@ ends-front (x ∷ xs) ys h = go (closes x) h (ends-front xs ys)
         let parts = and_parts (nat_le (length (xs ++ ys)) 0) (ends_once (xs ++ ys)) q in
         and_from (nat_le (length xs) 0) (ends_once xs) (shorter xs ys parts.0) (rest parts.1)
     go false q rest = rest q
+
+falls-front : (low : ℕ) (a r : List ℕ) → NeverFalls low (a ++ r) → NeverFalls low a
+falls-front low [] r f = tt
+falls-front low (n ∷ a) r f = (f.0, falls-front n a r f.1)
 
 -- a front of proper packets, perhaps with `Cut` behind it
 pub proper-part : (schema : List (Named SplType)) (sent all : List Packet) → IsPrefix (without_cut sent) all → stops_once sent ≡ true → IsProper schema all → IsProper schema sent

@@ -32,7 +32,7 @@ fits = record {
   some = omega arith;
 }
 
-first-port : (o p : ℕ) → slice_get (0 ∷ []) o ≡ Some p → p ≡ 0
+pub first-port : (o p : ℕ) → slice_get (0 ∷ []) o ≡ Some p → p ≡ 0
 first-port zero p e = let same : 0 ≡ p = cc in sym same
 first-port (suc o) p e = absurd (cc)
 

@@ -25,6 +25,7 @@ use Rattle.network_model.specs.Wiring.{is_source, Stands, Path, Fed, IsWired}
 use Rattle.network_model.specs.Flow.{channel_flow}
 use Rattle.network_laws.specs.RegionLaws.{HoldsLaw, RegionMomentLaw}
 use Rattle.std.proofs.lemmas.Option.{slice_get_within}
+use Rattle.list_engine.proofs.Operators.{made_by_other}
 use Rattle.stream_model.specs.Bodies.{output}
 use Rattle.network_model.proofs.Sending.{on_output-send_all}
 use Rattle.network_model.proofs.Chains.{on_port-outputs}
@@ -32,7 +33,7 @@ use Rattle.network_laws.proofs.Joining.{merger-at, replica-at}
 use Rattle.network_model.proofs.Packets.{front-same, front-left, front-trans, front-without_cut, front-items, items_in-without_cut, items_in-packets_of, stops-front}
 use Rattle.network_model.proofs.RegionParts.{split-without_cut, split-stops, replies-without_cut, replies-front, replies-none, replies-stop, without_cut-none, on_output-map, clean, merged-clean, channel-stops}
 use Rattle.network_model.proofs.Merging.{merged-front}
-use Rattle.network_laws.proofs.Meanings.{made_by-op, made-at, position-one}
+use Rattle.network_laws.proofs.Meanings.{made-at, position-one}
 
 pub flow-same : (region : RegionPart) (m : Meaning) (c : ℕ) → c < region.width → channel_flow region m c ≡ replica_owes region (m.streams region.entry) c
 flow-same region m c lt =
@@ -50,12 +51,12 @@ module _ (g : Graph) (rows : Lists) (entries : Entries) (ordered : IsOrdered (in
           → out op 0 (map (came 0) ((meaning g rows entries).streams s)) ≡ (meaning g rows entries).streams t
       one op s t stands none reads makes =
           ap (λ ins. out op 0 (events_at (meaning g rows entries).streams (concat ins) (entries op.number))) (sym reads)
-          ∙ sym (made_by-op op.clauses op 0 (events_of op (meaning g rows entries).streams (entries op.number)) (rows op.number) none)
+          ∙ sym (made_by_other op.clauses op 0 (events_of op (meaning g rows entries).streams (entries op.number)) (rows op.number) none)
           ∙ sym (made-at g rows entries ordered op stands 0 t (ap (position (λ u. u == t)) makes ∙ position-one t))
   chain-exit op (next ∷ ops) s t stands none reads path makes =
       ap (chain (next ∷ ops))
       (ap (λ ins. out op 0 (events_at (meaning g rows entries).streams (concat ins) (entries op.number))) (sym reads)
-      ∙ sym (made_by-op op.clauses op 0 (events_of op (meaning g rows entries).streams (entries op.number)) (rows op.number) none)
+      ∙ sym (made_by_other op.clauses op 0 (events_of op (meaning g rows entries).streams (entries op.number)) (rows op.number) none)
       ∙ sym (made-at g rows entries ordered op stands 0 path.0 (ap (position (λ u. u == path.0)) path.1 ∙ position-one path.0)))
       ∙ chain-exit next ops path.0 t path.3 path.4 path.2 path.5 makes
 

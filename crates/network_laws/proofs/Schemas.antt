@@ -54,7 +54,7 @@ module _ (c : CheckedGraph) (plan : List Region) (width : ℕ) (net : Net) (runs
 
   -- ---- the merger behind a replica, and behind a splitter
 
-  abbrev Merged : RegionPart → Type 0
+  abbrev pub Merged : RegionPart → Type 0
   Merged region = (d : ℕ) × (outs : List ℕ) × (d < net.size) × (net.part d ≡ Merger region outs)
 
   behind-replica : (e channel : ℕ) (region : RegionPart) → e < net.size → net.part e ≡ Replica region channel → Merged region
@@ -74,7 +74,7 @@ module _ (c : CheckedGraph) (plan : List Region) (width : ℕ) (net : Net) (runs
               let own : m.region ≡ region = cc in
               ((net.link led.link).to, m.outs, (runs.wired.links led.link led.within).within, m.to ∙ ap (λ z. Merger z m.outs) own)
 
-  behind-splitter : (e : ℕ) (region : RegionPart) → e < net.size → net.part e ≡ Splitter region → Merged region
+  pub behind-splitter : (e : ℕ) (region : RegionPart) → e < net.size → net.part e ≡ Splitter region → Merged region
   behind-splitter e region size is = go (runs.wired.led e 0 size (subst (λ z. 0 < outputs z) (sym is) (subst (PartFits (graph_of c)) is (runs.wired.parts e size)).some))
     where
       go : Led net e 0 → Merged region
@@ -94,13 +94,13 @@ module _ (c : CheckedGraph) (plan : List Region) (width : ℕ) (net : Net) (runs
 
   -- ---- links
 
+  pub from-below : (l : ℕ) → l < net.links → (net.link l).from < net.size
+  from-below l lt = let k = runs.wired.links l lt in let low : (net.link l).from < (net.link l).to = k.earlier in let top : (net.link l).to < net.size = k.within in omega (arith, low, top)
+
   module _ (lists : NetworkLists) (rows : Lists) (entries : Entries) (has : (s : ℕ) → HasSchema (meaning (graph_of c) rows entries) s (schema_at c s))
       (j : InProgress net lists) (under : IsUnder net lists rows entries) where
     m : Meaning
     m = meaning (graph_of c) rows entries
-
-    from-below : (l : ℕ) → l < net.links → (net.link l).from < net.size
-    from-below l lt = let k = runs.wired.links l lt in let low : (net.link l).from < (net.link l).to = k.earlier in let top : (net.link l).to < net.size = k.within in omega (arith, low, top)
 
     of-stream : (l s : ℕ) (schema : Attributes) → l < net.links → Carries (net.part (net.link l).from) (net.link l).output s → schema ≡ schema_at c s
         → IsProper schema (flow net rows (meaning (graph_of c) rows entries) l)

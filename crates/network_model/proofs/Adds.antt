@@ -9,20 +9,20 @@ use Rattle.spl_value.specs.declared.packet.Packet.TheVariants as P
 use Rattle.spl_value.specs.Numbered.{merged, closes}
 use Rattle.spl_value.specs.Route.{route}
 use Rattle.language_model.specs.declared.outs.Output.{Output}
-use Rattle.stream_model.specs.Stream.{Event, came, any_closes, IsPrefix}
+use Rattle.stream_model.specs.Stream.{any_closes, IsPrefix}
 use Rattle.stream_model.specs.Bodies.{output}
 use Rattle.stream_model.specs.Operators.{Operator}
 use Rattle.stream_model.specs.Stages.{Stage, start, gives_all, stage_after, on_port}
 use Rattle.stream_model.specs.Regions.{has_pulses}
 use Rattle.stream_model.specs.declared.outgoing.Outgoing.{Outgoing}
 use Rattle.stream_model.specs.Sending.{outgoing, to_each, stages_give, stages_after, replies}
-use Rattle.stream_model.proofs.ChainParts.{passed-append, stages_passed-append}
+use Rattle.stream_model.proofs.ChainParts.{passed-append}
 use Rattle.stream_model.proofs.ChainStages.{stages_after-none, stages_after-append}
-use Rattle.stream_model.proofs.StageLaws.{gives_all-append, after-append, on_port-append}
+use Rattle.stream_model.proofs.StageLaws.{gives_all-append, on_port-append}
 use Rattle.network_model.specs.Packets.{items_in}
 use Rattle.network_model.specs.Networks.{RegionPart, Part, FromSource, FromLinks, Splitter, Replica, Merger, last_of}
 use Rattle.network_model.specs.Receipts.{Receipt, popped, read_in, item_events}
-use Rattle.stream_model.specs.Chains.{onward, passed, stages_passed}
+use Rattle.stream_model.specs.Chains.{passed}
 use Rattle.network_model.specs.Owed.{taken_of, given, sends, send_all, region_splits}
 use Rattle.network_model.specs.Adds.{gives_more}
 use Rattle.network_model.specs.Sinks.{tuples_in, for_sink, is_sink}

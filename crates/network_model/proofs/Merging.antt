@@ -1,5 +1,5 @@
 -- What is merged of fronts of lists that are in order is a front of what is merged of these.
-use Rattle.std.proofs.Common.{ℕ, zero, suc, ◌+◌, ◌*◌, ◌<◌, ◌≤◌, ◌==◌, nat_le, Bool, true, false, cond, ◌&&◌, ◌||◌, List, [], ◌∷◌, ◌++◌, ◌≡◌, refl, sym, ap, ◌∙◌, append_assoc, append-nil, length, map, arith, Some, inl, inr, subst, slice_get, filter, take_while}
+use Rattle.std.proofs.Common.{ℕ, zero, suc, ◌+◌, ◌<◌, ◌≤◌, ◌==◌, nat_le, Bool, true, false, cond, ◌&&◌, ◌||◌, List, [], ◌∷◌, ◌++◌, ◌≡◌, refl, sym, ap, ◌∙◌, append_assoc, append-nil, length, map, arith, inl, inr, subst, filter, take_while}
 use Rattle.std.specs.List.{list_all, list_any}
 use Rattle.std.proofs.lemmas.Bool.{cond-true, cond-false, cases_lt, cases_eq, eqb-true, ne_eqb, and_parts, and_from, or_parts, or_left, or_right, leb-true, le-leb}
 use Rattle.std.proofs.lemmas.List.{map-append}
@@ -9,8 +9,10 @@ use Rattle.std.proofs.lemmas.List.Sums.{take_while-cons}
 use Rattle.spl_value.specs.declared.item.Item.{Item}
 use Rattle.spl_value.specs.declared.packet.Packet.{Packet}
 use Rattle.spl_value.specs.declared.packet.Packet.TheVariants as P
-use Rattle.spl_value.specs.Numbered.{closes, cut, below, top, top_all, of_number, in_turn, item_of, items_of, number_of, numbers_of, is_pulse, reaches, channels_from, channels, taken_items, Rule, ByTurns, ByNumbers, ByPulses, has_number, known_by_number, known_by_pulses, known, merged, NeverFalls, Rises, stops_once, AreApart, AreInTurn, InOrder}
+use Rattle.spl_value.specs.Numbered.{closes, cut, below, top, top_all, of_number, in_turn, item_of, items_of, numbers_of, reaches, channels_from, channels, taken_items, Rule, ByTurns, ByNumbers, ByPulses, has_number, known_by_number, known_by_pulses, known, merged, NeverFalls, Rises, stops_once, AreApart, AreInTurn, InOrder}
 use Rattle.stream_model.specs.Stream.{IsPrefix}
+use Rattle.channel_heads.specs.FrontLaws.{AreFronts}
+use Rattle.channel_heads.proofs.Packets.{in_turn_rises}
 use Rattle.network_model.proofs.Packets.{front-trans, front-same, front-left, no_length}
 
 abbrev Tagged : Type 0
@@ -336,10 +338,6 @@ pulses-down w t (suc n) h =
 numbers-down : (w : ℕ) (t : ℕ → List Packet) → Down (known_by_number w t)
 numbers-down w t n h = (and_parts (known_by_number w t n) (has_number n (taken_items w t)) h).0
 
--- lists of packets that are fronts
-abbrev pub AreFronts : ℕ → (ℕ → List Packet) → (ℕ → List Packet) → Type 0
-AreFronts w t u = (c : ℕ) → c < w → IsPrefix (t c) (u c)
-
 front-items_of : (a b : List Packet) → IsPrefix a b → IsPrefix (items_of a) (items_of b)
 front-items_of a b p = (items_of p.0, sym (filter_map-append item_of a p.0) ∙ ap items_of p.1)
 
@@ -441,21 +439,9 @@ rise-same (p ∷ ps) r low m f h = go (p.0 == m) refl h (rise-same ps r (suc p.0
 
 -- ---- lists in order
 
-rises-from : (low high : ℕ) (ns : List ℕ) → low ≤ high → Rises high ns → Rises low ns
-rises-from low high [] le f = tt
-rises-from low high (n ∷ ns) le f = let first = f.0 in (omega (arith, le, first), f.1)
-
-turns-rise : (ps : List (ℕ × Item)) (from w c : ℕ) → c < w → ((k : ℕ) (p : ℕ × Item) → slice_get ps k ≡ Some p → p.0 ≡ (from + k) * w + c) → Rises (from * w + c) (map (λ (p : ℕ × Item). p.0) ps)
-turns-rise [] from w c lt h = tt
-turns-rise (p ∷ ps) from w c lt h =
-    let first : p.0 ≡ from * w + c = h 0 p refl ∙ ap (λ z. z * w + c) (let e : from + 0 ≡ from = omega arith in e) in
-    let rest : Rises (suc from * w + c) (map (λ (q : ℕ × Item). q.0) ps) =
-    turns-rise ps (suc from) w c lt (λ k q at. h (suc k) q at ∙ ap (λ z. z * w + c) (let e : from + suc k ≡ suc from + k = omega arith in e)) in
-    (omega (arith, first), rises-from (suc p.0) (suc from * w + c) (map (λ (q : ℕ × Item). q.0) ps) (omega (arith, first, lt)) rest)
-
 -- the numbers of items rise, where merging isn't by pulses
 rising : (w : ℕ) (u : ℕ → List Packet) → AreInTurn w u → (c : ℕ) → c < w → Rises 0 (map (λ (p : ℕ × Item). p.0) (items_of (u c)))
-rising w u turn c lt = rises-from 0 (0 * w + c) (map (λ (p : ℕ × Item). p.0) (items_of (u c))) (omega arith) (turns-rise (items_of (u c)) 0 w c lt (λ k p at. turn.turns c k p lt at ∙ ap (λ z. z * w + c) (let e : k ≡ 0 + k = omega arith in e)))
+rising w u turn c lt = (in_turn_rises w u (omega (arith, lt)) turn).rises c lt
 
 apart-items : (w : ℕ) (u : ℕ → List Packet) → AreApart w u → Apart 0 w (λ c. items_of (u c))
 apart-items w u a n d e x y h k = let dh = x.1 in let eh = y.1 in a.apart n d e (omega (arith, dh)) (omega (arith, eh)) h k
@@ -540,43 +526,3 @@ merged-front rule w t u f o s =
     (of_number-own (taken_items w t)) (of_number-own (taken_items w u)) (known-down rule w t) (known-down rule w u) (known-up rule w t u f) (known-same rule w t u f o s)
     (λ n. block-front 0 w n (λ c. items_of (t c)) (λ c. items_of (u c)) (item-fronts w t u f) (apart-items w u (apart-of rule w u o)))
     (top_all (taken_items w t)) (top_all (taken_items w u)) (top_all-front 0 w (λ c. items_of (t c)) (λ c. items_of (u c)) (item-fronts w t u f)))
-
--- ---- fronts of lists in order are in order
-
-pub falls-front : (low : ℕ) (a r : List ℕ) → NeverFalls low (a ++ r) → NeverFalls low a
-falls-front low [] r f = tt
-falls-front low (n ∷ a) r f = (f.0, falls-front n a r f.1)
-
-rises-front : (low : ℕ) (a r : List ℕ) → Rises low (a ++ r) → Rises low a
-rises-front low [] r f = tt
-rises-front low (n ∷ a) r f = (f.0, rises-front (suc n) a r f.1)
-
-get-front : {A : Type 0} (a r : List A) (k : ℕ) (x : A) → slice_get a k ≡ Some x → slice_get (a ++ r) k ≡ Some x
-get-front [] r k x e = absurd (cc)
-get-front (y ∷ a) r zero x e = e
-get-front (y ∷ a) r (suc k) x e = get-front a r k x e
-
-apart-front : (w : ℕ) (t u : ℕ → List Packet) → AreFronts w t u → AreApart w u → AreApart w t
-apart-front w t u f a = record {
-  falls = λ c lt. let p : IsPrefix (t c) (u c) = f c lt in
-      falls-front 0 (numbers_of (t c)) (numbers_of p.0) (subst (NeverFalls 0) (ap numbers_of (sym p.1) ∙ filter_map-append number_of (t c) p.0) (a.falls c lt));
-  apart = λ n c d lt below h k. a.apart n c d lt below
-      (any-front (λ (p : ℕ × Item). p.0 == n) (items_of (t c)) (items_of (u c)) (front-items_of (t c) (u c) (f c lt)) h)
-      (any-front (λ (p : ℕ × Item). p.0 == n) (items_of (t d)) (items_of (u d)) (front-items_of (t d) (u d) (f d below)) k);
-}
-
-pub order-front : (rule : Rule) (w : ℕ) (t u : ℕ → List Packet) → AreFronts w t u → InOrder rule w u → InOrder rule w t
-order-front ByTurns w t u f o = record {
-  apart = apart-front w t u f o.apart;
-  no_pulses = λ c lt. any-none is_pulse (t c) (u c) (f c lt) (o.no_pulses c lt);
-  turns = λ c k p lt at. let q : IsPrefix (items_of (t c)) (items_of (u c)) = front-items_of (t c) (u c) (f c lt) in
-      o.turns c k p lt (ap (λ z. slice_get z k) (sym q.1) ∙ get-front (items_of (t c)) q.0 k p at);
-}
-order-front ByNumbers w t u f o = record {
-  apart = apart-front w t u f o.apart;
-  no_pulses = λ c lt. any-none is_pulse (t c) (u c) (f c lt) (o.no_pulses c lt);
-  rises = λ c lt. let q : IsPrefix (items_of (t c)) (items_of (u c)) = front-items_of (t c) (u c) (f c lt) in
-      rises-front 0 (map (λ (p : ℕ × Item). p.0) (items_of (t c))) (map (λ (p : ℕ × Item). p.0) q.0)
-      (subst (Rises 0) (ap (map (λ (p : ℕ × Item). p.0)) (sym q.1) ∙ map-append (λ (p : ℕ × Item). p.0) (items_of (t c)) q.0) (o.rises c lt));
-}
-order-front ByPulses w t u f o = apart-front w t u f o

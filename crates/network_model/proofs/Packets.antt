@@ -1,5 +1,5 @@
 -- Packets of streams, and fronts of lists.
-use Rattle.std.proofs.Common.{ℕ, ◌≤◌, ◌==◌, Bool, true, false, cond, not, ◌&&◌, ◌||◌, List, [], ◌∷◌, ◌++◌, ◌≡◌, refl, sym, ap, ◌∙◌, append_assoc, append-nil, length, map, arith}
+use Rattle.std.proofs.Common.{ℕ, ◌≤◌, Bool, true, false, cond, not, ◌&&◌, ◌||◌, List, [], ◌∷◌, ◌++◌, ◌≡◌, refl, sym, ap, ◌∙◌, append_assoc, append-nil, length, map, arith}
 use Rattle.std.specs.Prelude.{nat_le}
 use Rattle.std.proofs.lemmas.Bool.{and_parts, and_from, leb-true}
 use Rattle.std.proofs.lemmas.List.{map-append}
@@ -12,6 +12,7 @@ use Rattle.spl_value.specs.Numbered.{item_of, items_of, is_last, is_cut, stops_o
 use Rattle.stream_model.specs.Stream.{any_closes, is_closed, is_empty, IsPrefix}
 use Rattle.stream_model.specs.declared.outgoing.Outgoing.{Outgoing}
 use Rattle.stream_model.specs.Sending.{on_output}
+use Rattle.stream_model.proofs.Outputs.{on_output-append}
 use Rattle.network_model.specs.Packets.{items_in, has_last, without_cut, is_stream, packets_of}
 
 -- ---- fronts
@@ -29,15 +30,6 @@ pub front-left : {A : Type 0} (a a2 b b2 : List A) → a ≡ a2 → b ≡ b2 →
 front-left a a2 b b2 e f p = (p.0, ap (λ z. z ++ p.0) e ∙ p.1 ∙ sym f)
 
 -- ---- on_output
-
-pub on_output-append : (i : ℕ) (some more : List Outgoing) → on_output i (some ++ more) ≡ on_output i some ++ on_output i more
-on_output-append i [] more = refl
-on_output-append i (s ∷ some) more = go (s.output == i) (on_output-append i some more)
-  where
-    go : (b : Bool) → on_output i (some ++ more) ≡ on_output i some ++ on_output i more
-        → cond b (s.packet ∷ on_output i (some ++ more)) (on_output i (some ++ more)) ≡ cond b (s.packet ∷ on_output i some) (on_output i some) ++ on_output i more
-    go true rest = ap (λ z. s.packet ∷ z) rest
-    go false rest = rest
 
 pub front-on_output : (i : ℕ) (a b : List Outgoing) → IsPrefix a b → IsPrefix (on_output i a) (on_output i b)
 front-on_output i a b p = (on_output i p.0, sym (on_output-append i a p.0) ∙ ap (on_output i) p.1)
@@ -82,7 +74,7 @@ without_cut-packets_of (x ∷ items) = go (closes x) (without_cut-packets_of ite
     go true rest = ap (λ z. P.Item 0 x ∷ P.Close ∷ z) rest
     go false rest = ap (λ z. P.Item 0 x ∷ z) rest
 
-empty-nil : {A : Type 0} (xs : List A) → is_empty xs ≡ true → xs ≡ []
+pub empty-nil : {A : Type 0} (xs : List A) → is_empty xs ≡ true → xs ≡ []
 empty-nil [] h = refl
 empty-nil (x ∷ xs) h = absurd (cc)
 

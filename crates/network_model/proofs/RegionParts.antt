@@ -23,8 +23,10 @@ use Rattle.network_model.specs.Flow.{channel_flow}
 use Rattle.network_model.specs.Receipts.{Taken}
 use Rattle.network_model.specs.PartLaws.{IsLess, IsPart}
 use Rattle.network_model.proofs.Sending.{on_output-send_all, on_output-no_output, front-send_all}
-use Rattle.network_model.proofs.Merging.{merged-front, order-front}
-use Rattle.network_model.proofs.Packets.{front-same, front-left, front-map, on_output-append, no_length, stops-front, stops-packets_of}
+use Rattle.channel_heads.proofs.Fronts.{order_law}
+use Rattle.network_model.proofs.Merging.{merged-front}
+use Rattle.stream_model.proofs.Outputs.{on_output-append}
+use Rattle.network_model.proofs.Packets.{front-same, front-left, front-map, no_length, stops-front, stops-packets_of}
 use Rattle.network_model.proofs.Chains.{front-lists, on_port-outputs, without_cut-sent}
 
 -- ---- splitters
@@ -309,7 +311,7 @@ merger-part region outs = record {
       (front-map (output 0) (merged region.rule region.width t.packets) (merged region.rule region.width u.packets)
       (merged-more region outs t u less b));
   binds = λ t u less b. (
-    order-front region.rule region.width (clean t.packets) (clean u.packets) (λ c lt. less.packets c) b.0,
+    order_law region.rule region.width (clean t.packets) (clean u.packets) b.0 (λ c lt. less.packets c),
     λ c lt. let p : IsPrefix (without_cut (t.packets c)) (without_cut (u.packets c)) = less.packets c in stops-front (without_cut (t.packets c)) p.0 (ap stops_once p.1 ∙ b.1 c lt),
   );
   stops = λ t o b. stops-merged outs (merged region.rule region.width t.packets) o

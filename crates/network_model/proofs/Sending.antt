@@ -12,7 +12,7 @@ use Rattle.stream_model.specs.Stages.{on_port}
 use Rattle.stream_model.specs.Sending.{outgoing, on_output}
 use Rattle.network_model.specs.Packets.{packets_of}
 use Rattle.network_model.specs.Owed.{to_port, sends, send_all}
-use Rattle.network_model.proofs.Packets.{on_output-append}
+use Rattle.stream_model.proofs.Outputs.{on_output-append}
 
 -- an output of this port, where there is one
 abbrev is_of : Option ℕ → ℕ → Bool

@@ -1,9 +1,8 @@
 -- What the pieces of a graph make and read.
-use Rattle.std.proofs.Common.{ℕ, zero, suc, ◌+◌, ◌<◌, ◌≤◌, ◌==◌, Bool, true, false, List, [], ◌∷◌, ◌++◌, append_assoc, ◌≡◌, ◌⊎◌, inl, inr, refl, sym, ap, subst, ◌∙◌, arith, length, map, Some, slice_get}
+use Rattle.std.proofs.Common.{ℕ, zero, suc, ◌+◌, ◌<◌, ◌≤◌, ◌==◌, Bool, true, false, List, [], ◌∷◌, ◌++◌, append_assoc, ◌≡◌, ◌⊎◌, inl, inr, refl, sym, ap, subst, ◌∙◌, arith, length, Some, slice_get}
 use Rattle.std.specs.List.{concat, list_any}
 use Rattle.std.proofs.lemmas.Bool.{cases_Bool, cases_eq, eqb-true, eq-eqb, ne_eqb, or_left, or_right}
-use Rattle.std.proofs.lemmas.List.{length-append, length-map}
-use Rattle.stream_model.specs.Operators.{Operator, connections, ports, ports_from}
+use Rattle.stream_model.specs.Operators.{Operator, connections}
 use Rattle.stream_model.specs.Meaning.{Graph, in_topo}
 use Rattle.stream_model.specs.Laws.{reads_stream, makes_stream}
 use Rattle.pe_fusion.specs.Fusing.{AreFused, Each, Feeds, Fused, GraphFits, makes_in}
@@ -46,17 +45,6 @@ one-port ((t ∷ u ∷ streams) ∷ ins) s some e = absurd (cc)
 one-port ((t ∷ []) ∷ []) s some e = ap (λ streams. streams ∷ []) e
 one-port ((t ∷ []) ∷ [] ∷ ins) s some e = absurd (let k : 0 < 0 = some 1 [] refl in omega (arith, k))
 one-port ((t ∷ []) ∷ (u ∷ streams) ∷ ins) s some e = absurd (cc)
-
-ports-length : (p : ℕ) (ins : List (List ℕ)) → length (ports_from p ins) ≡ length (concat ins)
-ports-length p [] = refl
-ports-length p (streams ∷ ins) =
-    length-append (map (λ s. p) streams) (ports_from (suc p) ins)
-    ∙ ap (λ n. n + length (ports_from (suc p) ins)) (length-map streams (λ s. p))
-    ∙ ap (λ n. length streams + n) (ports-length (suc p) ins)
-    ∙ sym (length-append streams (concat ins))
-
-pub as-many : (op : Operator) → length (ports op) ≡ length (connections op)
-as-many op = ports-length 0 op.ins
 
 -- ---- inner operators
 

@@ -20,10 +20,10 @@ use Rattle.pe_fusion.specs.Fusing.{GraphFits}
 use Rattle.pe_fusion.specs.FusionLaws.{FitsLaw}
 use Rattle.pe_fusion.specs.Totals.{one_if, times}
 use Rattle.pe_fusion.proofs.Totals.{times-any, times-none, total-found, some-one}
-use Rattle.pe_fusion.proofs.Chains.{any-at, as-many}
+use Rattle.pe_fusion.proofs.Chains.{any-at}
 use Rattle.list_engine.proofs.Orders.{contains_from_any, any_from_contains, numbered, made_from, not_before, is_ordered}
 use Rattle.list_engine.proofs.GraphOperators.{is_numbered, operator_there}
-use Rattle.list_engine.proofs.Ports.{some_input, outs_once, source_out}
+use Rattle.list_engine.proofs.Ports.{some_input, outs_once, source_out, input_count}
 
 once-times : (s : ℕ) (xs : List ℕ) → Once xs → times (λ t. t == s) xs ≤ 1
 once-times s [] once = omega arith
@@ -143,7 +143,7 @@ module _ (c : CheckedGraph) (k : Keeps c) where
       let is = operator_at c g refl p.0 op p.1 in
       let some = some_input c p.0 is.op is.part k is.there is.has (ap is_source (ap (λ (o : Operator). o.clauses) (sym is.same)) ∙ e) in
       let same : length (connections op) ≡ length (concat is.op.ins) = ap (λ (o : Operator). length (connections o)) is.same in
-      let many = as-many op in
+      let many = input_count op in
       omega (arith, some, same, many)
 
   each-port : (op : Operator) (i : ℕ) (streams : List ℕ) → Stands g op → slice_get op.ins i ≡ Some streams → 0 < length streams

@@ -5,13 +5,14 @@ use Rattle.std.specs.List.{flat_map, position_or_len}
 use Rattle.std.proofs.lemmas.Bool.{cases_Bool, eqb-true, eq-eqb, ne_eqb, and_parts, and_from, and_left, and_right, lt-ltb}
 use Rattle.std.proofs.lemmas.List.{length-append, length-map}
 use Rattle.std.proofs.lemmas.Option.{slice_get_within}
+use Rattle.spl_value.proofs.Lists.{append_front}
 use Rattle.stream_model.specs.Operators.{Operator, connections}
 use Rattle.stream_model.specs.Meaning.{Graph}
 use Rattle.stream_model.specs.Laws.{IsNumbered}
 use Rattle.pe_fusion.specs.FusedNets.{ports_of_outputs}
 use Rattle.pe_fusion.specs.Readers.{readers, reads_at}
 use Rattle.pe_fusion.specs.Totals.{one_if, times}
-use Rattle.pe_fusion.proofs.Totals.{total-flat, total-only, total-at, some-one, get-left, get-right, Behind, get-append}
+use Rattle.pe_fusion.proofs.Totals.{total-flat, total-only, total-at, some-one, get-right, Behind, get-append}
 
 -- ---- a connection of a stream
 
@@ -168,7 +169,7 @@ output-is g p (s ∷ outs) o r at = go (get-append (readers g s) (flat_map (read
       port = 0;
       stream = s;
       place = o;
-      carries = get-left (map (λ r. p) (readers g s)) (ports_of_outputs g (suc p) outs) o p (get-map p (readers g s) o r a) ∙ ap (λ k. Some k) (let e : p ≡ p + 0 = omega arith in e);
+      carries = append_front (map (λ r. p) (readers g s)) (ports_of_outputs g (suc p) outs) o p (get-map p (readers g s) o r a) ∙ ap (λ k. Some k) (let e : p ≡ p + 0 = omega arith in e);
       is = refl;
       reads = a;
     }

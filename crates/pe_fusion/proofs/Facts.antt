@@ -1,22 +1,20 @@
 -- By which facts an operator stands behind its producer in a piece, and in which order pieces stand.
-use Rattle.std.proofs.Common.{ℕ, zero, suc, ◌+◌, ◌<◌, ◌≤◌, ◌==◌, ◌&&◌, not, Bool, true, false, cond, List, [], ◌∷◌, ◌++◌, append_assoc, append-nil, ◌≡◌, ◌⊎◌, inl, inr, refl, sym, ap, ◌∙◌, subst, arith, length, map, Some, slice_get}
-use Rattle.std.specs.Prelude.{◌↔◌}
-use Rattle.std.proofs.lemmas.Bool.{cases_Bool, cases_eq, eqb-true, eq-eqb, and_from, cond-false, both_ways}
-use Rattle.spl_value.proofs.Lists.{push_some}
+use Rattle.std.proofs.Common.{ℕ, zero, suc, ◌+◌, ◌<◌, ◌==◌, ◌&&◌, not, Bool, true, false, cond, List, [], ◌∷◌, ◌++◌, append_assoc, append-nil, ◌≡◌, ◌⊎◌, inl, inr, refl, sym, ap, ◌∙◌, subst, arith, length, map, Some, slice_get}
+use Rattle.std.proofs.lemmas.Bool.{cases_Bool, eqb-true, eq-eqb, and_from, cond-false, both_ways}
 use Rattle.stream_model.specs.declared.plan.Region.{Region}
 use Rattle.stream_model.specs.Operators.{Operator, connections}
 use Rattle.stream_model.specs.Meaning.{Graph, in_topo}
 use Rattle.stream_model.specs.Regions.{IsPartOf, how_often}
 use Rattle.network_model.specs.Networks.{last_of}
 use Rattle.network_model.specs.Wiring.{Stands}
-use Rattle.pe_fusion.specs.Fusing.{AreFused, AreRegions, Begins, Each, Fused, GraphFits, Regional, TakesAlone, makes_in}
+use Rattle.pe_fusion.specs.Fusing.{AreFused, AreRegions, Each, Fused, GraphFits, Regional, TakesAlone}
 use Rattle.pe_fusion.specs.FusionLaws.{FactsLaw, OrderLaw, StandsBehind}
 use Rattle.pe_fusion.specs.Pieces.{Piece, fuses, in_region, last_in, longer, ops_in, pieces_of, place, placed, share_region, takes, takes_alone}
 use Rattle.pe_fusion.specs.Readers.{readers}
 use Rattle.pe_fusion.specs.Shapes.{numbers}
 use Rattle.pe_fusion.specs.Totals.{one_if, times, total}
 use Rattle.pe_fusion.proofs.Totals.{some-one, total-append, total-at, total-found, total-unique}
-use Rattle.pe_fusion.proofs.Often.{often-append, often-here, times-often}
+use Rattle.pe_fusion.proofs.Often.{often-append, times-often}
 use Rattle.pe_fusion.proofs.Chains.{each-at, inner-none, made-once, makes-parts}
 use Rattle.pe_fusion.proofs.RegionPieces.{fused-stands, in-pieces, in-plan, last-stands, new-op, pieces_law, prev-done, step-fused, step-regional}
 

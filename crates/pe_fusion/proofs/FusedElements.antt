@@ -1,29 +1,25 @@
 -- The elements of a shape are those of the network.
-use Rattle.std.proofs.Common.{ℕ, zero, suc, ◌+◌, ◌<◌, Bool, true, false, List, [], ◌∷◌, ◌++◌, ◌≡◌, ◌⊎◌, inl, inr, refl, sym, ap, ◌∙◌, subst, arith, length, map, replicate, Option, None, Some, slice_get}
-use Rattle.std.specs.List.{flat_map}
+use Rattle.std.proofs.Common.{ℕ, zero, suc, List, [], ◌∷◌, ◌++◌, ◌≡◌, ◌⊎◌, inl, inr, refl, sym, ap, ◌∙◌, subst, length, map, replicate, Option, None, Some, slice_get}
 use Rattle.std.specs.Option.{unwrap_or}
 use Rattle.language_model.specs.CheckedGraph.{CheckedGraph}
 use Rattle.language_model.specs.Keeping.{Keeps}
 use Rattle.stream_model.specs.declared.plan.Region.{Region}
 use Rattle.stream_model.specs.declared.shape.Role.{Role}
 use Rattle.stream_model.specs.declared.shape.Role.TheVariants as L
-use Rattle.stream_model.specs.declared.shape.ShapeElement.{ShapeElement}
 use Rattle.stream_model.specs.CheckedMeaning.{graph_of}
-use Rattle.stream_model.specs.Meaning.{Graph, in_topo}
-use Rattle.stream_model.specs.Regions.{IsPlan, ops_of, width_of}
-use Rattle.network_model.specs.Networks.{RegionPart, Part, FromSource, FromLinks, Splitter, Replica, Merger}
+use Rattle.stream_model.specs.Meaning.{Graph}
+use Rattle.stream_model.specs.Regions.{IsPlan, width_of}
+use Rattle.network_model.specs.Networks.{RegionPart, Replica, Merger}
 use Rattle.stream_model.specs.Fans.{fan_ports_from, ports_of_fans}
-use Rattle.pe_fusion.specs.ElementPorts.{connections_of_outs, ports_of}
-use Rattle.pe_fusion.specs.Fusing.{AreFused, AreRegions, GraphFits}
+use Rattle.pe_fusion.specs.ElementPorts.{connections_of_outs}
+use Rattle.pe_fusion.specs.Fusing.{AreRegions}
 use Rattle.pe_fusion.specs.FusedNets.{chain_of, no_part, outputs_in, parts_at, parts_in, ports_of_outputs, region_in, region_part, replicas_of}
 use Rattle.pe_fusion.specs.Pieces.{Piece, last_in, ops_in, pieces_of, replicated}
 use Rattle.pe_fusion.specs.Readers.{readers}
 use Rattle.pe_fusion.specs.ShapeLaws.{ElementsLaw, IsTold, OfRegion, Tells}
 use Rattle.pe_fusion.specs.Shapes.{element, elements_by, elements_in, elements_of, numbers, region_place, replica_elements}
-use Rattle.pe_fusion.specs.steps.Building.{last_outs}
 use Rattle.pe_fusion.specs.steps.Placing.{region_of}
 use Rattle.pe_fusion.specs.steps.Regions.{enter_all}
-use Rattle.pe_fusion.proofs.Totals.{get-left}
 use Rattle.pe_fusion.proofs.PlanParts.{regions_law}
 use Rattle.pe_fusion.proofs.Checked.{fits_law}
 use Rattle.pe_fusion.proofs.RegionPieces.{whole_law}

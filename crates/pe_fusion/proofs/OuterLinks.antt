@@ -6,11 +6,6 @@ use Rattle.pe_fusion.specs.Totals.{one_if, times}
 
 -- ---- links
 
-pub item-below : {X : Type 0} (xs : List X) (e : ℕ) → e < length xs → (x : X) × (slice_get xs e ≡ Some x)
-item-below [] e lt = absurd (let k : e < 0 = lt in omega (arith, k))
-item-below (x ∷ xs) zero lt = (x, refl)
-item-below (x ∷ xs) (suc e) lt = item-below xs e (let k : suc e < suc (length xs) = lt in omega (arith, k))
-
 pub record OuterAt (entry : ℕ → ℕ) (e o : ℕ) (rs : List (ℕ × ℕ)) (k : Link) : Type 0 where
   pub at : ℕ
   pub reader : ℕ × ℕ

@@ -2,6 +2,7 @@
 use Rattle.std.proofs.Common.{ℕ, zero, suc, ◌+◌, ◌<◌, ◌==◌, List, [], ◌∷◌, ◌++◌, append_assoc, ◌≡◌, ◌⊎◌, inl, inr, refl, sym, ap, ◌∙◌, arith, length, Option, Some, None, slice_get}
 use Rattle.std.specs.List.{flat_map}
 use Rattle.std.proofs.lemmas.Bool.{cases_order, eq-eqb, ne_eqb, and_from, and_left, and_right}
+use Rattle.spl_value.proofs.Lists.{append_front, get_below}
 use Rattle.stream_model.specs.declared.plan.Region.{Region}
 use Rattle.stream_model.specs.Meaning.{Graph}
 use Rattle.network_model.specs.Networks.{Link}
@@ -9,8 +10,8 @@ use Rattle.pe_fusion.specs.FusedNets.{channel_links, links_at, links_in, merger_
 use Rattle.pe_fusion.specs.Pieces.{Piece, last_in}
 use Rattle.pe_fusion.specs.Readers.{readers}
 use Rattle.pe_fusion.specs.Totals.{one_if, times, total}
-use Rattle.pe_fusion.proofs.Totals.{total-append, total-zero, total-only, Behind, get-append, get-left, get-right}
-use Rattle.pe_fusion.proofs.OuterLinks.{OuterAt, outer-at, leads, leads_to, outer-times, item-below}
+use Rattle.pe_fusion.proofs.Totals.{total-append, total-zero, total-only, Behind, get-append, get-right}
+use Rattle.pe_fusion.proofs.OuterLinks.{OuterAt, outer-at, leads, leads_to, outer-times}
 use Rattle.pe_fusion.proofs.Spots.{size, spots, spots-apart}
 
 -- ---- the links inside a region
@@ -82,7 +83,7 @@ merger-none e n d i apart = total-zero (λ k. one_if (leads d i k)) (merger_link
 channel-one : (s n c : ℕ) → c < n → times (leads (s + 1 + c) 0) (channel_links s 0 n) ≡ 1
 channel-one s n c lt =
     let m = channels-length s 0 n in
-    let k = item-below (channel_links s 0 n) c (omega (arith, lt, m)) in
+    let k = get_below (channel_links s 0 n) c (omega (arith, lt, m)) in
     let r = channel-at s 0 n c k.0 k.1 in
     let to = r.1.to_is in
     total-only (λ k. one_if (leads (s + 1 + c) 0 k)) (channel_links s 0 n) c k.0 k.1 (λ l y at apart.
@@ -94,7 +95,7 @@ channel-one s n c lt =
 merger-one : (e n c : ℕ) → c < n → times (leads (e + n) c) (merger_links e 0 n) ≡ 1
 merger-one e n c lt =
     let m = mergers-length e 0 n in
-    let k = item-below (merger_links e 0 n) c (omega (arith, lt, m)) in
+    let k = get_below (merger_links e 0 n) c (omega (arith, lt, m)) in
     let r = merger-link-at e 0 n c k.0 k.1 in
     let input = r.1.input_is in
     total-only (λ k. one_if (leads (e + n) c k)) (merger_links e 0 n) c k.0 k.1 (λ l y at apart.
@@ -167,7 +168,7 @@ module _ (g : Graph) (plan : List Region) (w : ℕ) where
   link-in entry e (p ∷ ps) zero n x k at is =
       let same : (e, p) ≡ x = cc in (
         n,
-        get-left (links_in g w (region_in plan p) entry e p) (links_at g plan w entry (e + size g plan w p) ps) n k
+        append_front (links_in g w (region_in plan p) entry e p) (links_at g plan w entry (e + size g plan w p) ps) n k
             (ap (λ (z : ℕ × Piece). slice_get (links_in g w (region_in plan z.1) entry z.0 z.1) n) same ∙ is),
       )
   link-in entry e (p ∷ ps) (suc j) n x k at is =
@@ -179,7 +180,7 @@ module _ (g : Graph) (plan : List Region) (w : ℕ) where
   pub inner-link : (o : Option Region) (entry : ℕ → ℕ) (e n : ℕ) (p : Piece) (k : Link) → slice_get (inner_by o e) n ≡ Some k → slice_get (links_in g w o entry e p) n ≡ Some k
   inner-link o entry e n p k is =
       ap (λ ls. slice_get ls n) (links-in-is o entry e p)
-      ∙ get-left (inner_by o e) (outer_links entry (e + exit_by o) 0 (flat_map (readers g) (last_in p).outs)) n k is
+      ∙ append_front (inner_by o e) (outer_links entry (e + exit_by o) 0 (flat_map (readers g) (last_in p).outs)) n k is
 
   pub outer-link : (o : Option Region) (entry : ℕ → ℕ) (e n : ℕ) (p : Piece) (k : Link) → slice_get (outer_links entry (e + exit_by o) 0 (flat_map (readers g) (last_in p).outs)) n ≡ Some k
       → slice_get (links_in g w o entry e p) (length (inner_by o e) + n) ≡ Some k
@@ -191,15 +192,15 @@ module _ (g : Graph) (plan : List Region) (w : ℕ) where
   pub from-splitter : (s c : ℕ) (r : Region) → c < w → (k : Link) × (slice_get (inner_by (Some r) s) c ≡ Some k) × (k.from ≡ s) × (k.output ≡ c)
   from-splitter s c r lt =
       let m = channels-length s 0 w in
-      let k = item-below (channel_links s 0 w) c (omega (arith, lt, m)) in
+      let k = get_below (channel_links s 0 w) c (omega (arith, lt, m)) in
       let f = channel-at s 0 w c k.0 k.1 in
       let output : k.0.output ≡ 0 + c = f.1.output_is in
-      (k.0, get-left (channel_links s 0 w) (merger_links (s + 1) 0 w) c k.0 k.1, f.1.from_is, omega (arith, output))
+      (k.0, append_front (channel_links s 0 w) (merger_links (s + 1) 0 w) c k.0 k.1, f.1.from_is, omega (arith, output))
 
   pub from-replica : (s c : ℕ) (r : Region) → c < w → (n : ℕ) × (k : Link) × (slice_get (inner_by (Some r) s) n ≡ Some k) × (k.from ≡ s + suc c) × (k.output ≡ 0)
   from-replica s c r lt =
       let m = mergers-length (s + 1) 0 w in
-      let k = item-below (merger_links (s + 1) 0 w) c (omega (arith, lt, m)) in
+      let k = get_below (merger_links (s + 1) 0 w) c (omega (arith, lt, m)) in
       let f = merger-link-at (s + 1) 0 w c k.0 k.1 in
       let from : k.0.from ≡ s + 1 + c = f.1.from_is in
       (length (channel_links s 0 w) + c, k.0, get-right (channel_links s 0 w) (merger_links (s + 1) 0 w) c ∙ k.1, omega (arith, from), f.1.output_is)

@@ -2,13 +2,14 @@
 use Rattle.std.proofs.Common.{ℕ, zero, suc, ◌+◌, ◌<◌, ◌≤◌, ◌==◌, true, false, List, [], ◌∷◌, ◌++◌, ◌≡◌, ◌⊎◌, inl, inr, refl, sym, ap, ◌∙◌, arith, length, length-append, Option, Some, None, slice_get}
 use Rattle.std.proofs.lemmas.Bool.{cases_Bool, eqb-true, eq-eqb, ne_eqb, cond-true, cond-false}
 use Rattle.std.proofs.lemmas.Option.{slice_get_within}
+use Rattle.spl_value.proofs.Lists.{append_front}
 use Rattle.stream_model.specs.declared.plan.Region.{Region}
 use Rattle.stream_model.specs.Meaning.{Graph}
 use Rattle.network_model.specs.Networks.{RegionPart, Part, Splitter, Replica, Merger}
 use Rattle.pe_fusion.specs.FusedNets.{entry_at, outputs_in, parts_at, parts_in, region_in, region_part, replicas_of, size_by}
 use Rattle.pe_fusion.specs.Pieces.{Piece}
 use Rattle.pe_fusion.specs.Totals.{one_if, times}
-use Rattle.pe_fusion.proofs.Totals.{get-left, get-right, Behind, get-append, total-at}
+use Rattle.pe_fusion.proofs.Totals.{get-right, Behind, get-append, total-at}
 
 -- ---- the parts of a region
 
@@ -22,7 +23,7 @@ get-replica r c (suc w) zero lt = ap (λ d. Some (Replica r d)) (let e : c ≡ c
 get-replica r c (suc w) (suc k) lt = get-replica r (suc c) w k (omega (arith, lt)) ∙ ap (λ d. Some (Replica r d)) (let e : suc c + k ≡ c + suc k = omega arith in e)
 
 pub replica-at : (g : Graph) (w : ℕ) (r : Region) (p : Piece) (c : ℕ) → c < w → slice_get (parts_in g w (Some r) p) (suc c) ≡ Some (Replica (region_part g w r) c)
-replica-at g w r p c lt = get-left (replicas_of (region_part g w r) 0 w) (Merger (region_part g w r) (outputs_in g p) ∷ []) c (Replica (region_part g w r) c)
+replica-at g w r p c lt = append_front (replicas_of (region_part g w r) 0 w) (Merger (region_part g w r) (outputs_in g p) ∷ []) c (Replica (region_part g w r) c)
     (get-replica (region_part g w r) 0 w c lt ∙ ap (λ d. Some (Replica (region_part g w r) d)) (let e : 0 + c ≡ c = omega arith in e))
 
 pub merger-at : (g : Graph) (w : ℕ) (r : Region) (p : Piece) → slice_get (parts_in g w (Some r) p) (suc w) ≡ Some (Merger (region_part g w r) (outputs_in g p))
@@ -116,7 +117,7 @@ module _ (g : Graph) (plan : List Region) (w : ℕ) where
   part-in e (p ∷ ps) zero k x part at there =
       let same : (e, p) ≡ x = cc in
       let is : slice_get (parts_in g w (region_in plan p) p) k ≡ Some part = ap (λ (z : ℕ × Piece). slice_get (parts_in g w (region_in plan z.1) z.1) k) same ∙ there in
-      (k, ap (λ (z : ℕ × Piece). z.0 + k) same, get-left (parts_in g w (region_in plan p) p) (parts_at g plan w ps) k part is)
+      (k, ap (λ (z : ℕ × Piece). z.0 + k) same, append_front (parts_in g w (region_in plan p) p) (parts_at g plan w ps) k part is)
   part-in e (p ∷ ps) (suc j) k x part at there =
       let r = part-in (e + size p) ps j k x part at there in
       let n = size-is g w (region_in plan p) p in

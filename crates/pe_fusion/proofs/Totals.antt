@@ -113,11 +113,6 @@ times-none p (x ∷ xs) e =
 
 -- ---- places in joined lists
 
-pub get-left : {X : Type 0} (xs ys : List X) (i : ℕ) (x : X) → slice_get xs i ≡ Some x → slice_get (xs ++ ys) i ≡ Some x
-get-left [] ys i x at = absurd (cc)
-get-left (y ∷ xs) ys zero x at = at
-get-left (y ∷ xs) ys (suc i) x at = get-left xs ys i x at
-
 pub get-right : {X : Type 0} (xs ys : List X) (i : ℕ) → slice_get (xs ++ ys) (length xs + i) ≡ slice_get ys i
 get-right [] ys i = let k : 0 + i ≡ i = omega arith in ap (slice_get ys) k
 get-right (x ∷ xs) ys i = let k : suc (length xs) + i ≡ suc (length xs + i) = omega arith in ap (slice_get (x ∷ (xs ++ ys))) k ∙ get-right xs ys i

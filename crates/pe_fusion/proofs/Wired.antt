@@ -4,6 +4,8 @@ use Rattle.std.specs.List.{concat, flat_map}
 use Rattle.std.specs.Option.{unwrap_or}
 use Rattle.std.proofs.lemmas.Bool.{cases_eq, eqb-true, eq-eqb, ne_eqb, and_from, and_left, and_parts, cond_both, ltb-true}
 use Rattle.std.proofs.lemmas.Option.{slice_get_within}
+use Rattle.list_engine.proofs.Ports.{input_count}
+use Rattle.spl_value.proofs.Lists.{get_below}
 use Rattle.stream_model.specs.declared.plan.Region.{Region}
 use Rattle.stream_model.specs.Operators.{Operator, connections, ports}
 use Rattle.stream_model.specs.Meaning.{Graph, in_topo}
@@ -19,8 +21,8 @@ use Rattle.pe_fusion.specs.FusionLaws.{WiredLaw, FusedWired, FusedPlanned}
 use Rattle.network_model.specs.Wiring.{is_source, Stands, Path, PartFits, RegionFits, Carries, Connects, IsAt, ReplicaLink, LinkFits, Fed, Led, IsWired}
 use Rattle.pe_fusion.proofs.Totals.{total-flat, total-same, total-zero, total-only, total-at, total-unique, total-found, some-one, one-some, eqb-turn, Behind, get-append}
 use Rattle.pe_fusion.proofs.Connections.{outputs-length, is_reader, reader-is, reader-once, output-is, ports-fit, position-is}
-use Rattle.pe_fusion.proofs.Chains.{as-many, path-is, piece-stands, piece-number, first-once, last-once, reader-first, stands-before}
-use Rattle.pe_fusion.proofs.OuterLinks.{OuterAt, outer-from, leads, leads_to, item-below}
+use Rattle.pe_fusion.proofs.Chains.{path-is, piece-stands, piece-number, first-once, last-once, reader-first, stands-before}
+use Rattle.pe_fusion.proofs.OuterLinks.{OuterAt, outer-from, leads, leads_to}
 use Rattle.pe_fusion.proofs.RegionPieces.{last-stands, pieces_law, whole_law}
 use Rattle.pe_fusion.proofs.PlanParts.{chain_law, regions_law, replicated-at}
 use Rattle.pe_fusion.proofs.Checked.{fits_law}
@@ -67,7 +69,7 @@ module _ (g : Graph) (plan : List Region) (w capacity : ℕ) (pieces : List Piec
   spot-below : (j k : ℕ) (x : Spot) → At j x → k < size g plan w x.1 → x.0 + k < net.size
   spot-below j k x at lt =
       let n = size-is g w (region_in plan x.1) x.1 in
-      let p = item-below (parts_by x) k (omega (arith, lt, n)) in
+      let p = get_below (parts_by x) k (omega (arith, lt, n)) in
       slice_get_within (parts_at g plan w pieces) (x.0 + k) p.0 (part-at j k x p.0 at p.1)
 
   -- ---- regions
@@ -121,7 +123,7 @@ module _ (g : Graph) (plan : List Region) (w capacity : ℕ) (pieces : List Piec
 
   parts : (e : ℕ) → e < net.size → PartFits g (net.part e)
   parts e lt =
-      let p = item-below (parts_at g plan w pieces) e lt in
+      let p = get_below (parts_at g plan w pieces) e lt in
       let k = part-of g plan w 0 pieces e p.0 p.1 in
       subst (PartFits g) (sym (part-is e p.0 p.1)) (element-fits k.place k.spot (region_in plan k.spot.1) k.offset p.0 k.at refl k.is)
 
@@ -409,12 +411,12 @@ module _ (g : Graph) (plan : List Region) (w capacity : ℕ) (pieces : List Piec
           record { suits = outer-fits l k is en; once = ap (λ d. times (leads d k.input) (links_of g plan w pieces)) en.to ∙ count-entry en.target k.input en.stream en.reader en.there en.reads }
 
   links : (l : ℕ) → l < net.links → LinkFits net l
-  links l lt = let k = item-below (links_of g plan w pieces) l lt in (link-fits l k.0 (link-is l k.0 k.1) (link-of g plan w entry 0 pieces l k.0 k.1)).suits
+  links l lt = let k = get_below (links_of g plan w pieces) l lt in (link-fits l k.0 (link-is l k.0 k.1) (link-of g plan w entry 0 pieces l k.0 k.1)).suits
 
   one : (l m : ℕ) → l < net.links → m < net.links → (net.link l).to ≡ (net.link m).to → (net.link l).input ≡ (net.link m).input → l ≡ m
   one l m a b to input =
-      let k = item-below (links_of g plan w pieces) l a in
-      let j = item-below (links_of g plan w pieces) m b in
+      let k = get_below (links_of g plan w pieces) l a in
+      let j = get_below (links_of g plan w pieces) m b in
       let once = (link-fits l k.0 (link-is l k.0 k.1) (link-of g plan w entry 0 pieces l k.0 k.1)).once in
       let same_to : (j.0).to ≡ (k.0).to = ap (λ (z : Link). z.to) (sym (link-is m j.0 j.1)) ∙ sym to ∙ ap (λ (z : Link). z.to) (link-is l k.0 k.1) in
       let same_input : (j.0).input ≡ (k.0).input = ap (λ (z : Link). z.input) (sym (link-is m j.0 j.1)) ∙ sym input ∙ ap (λ (z : Link). z.input) (link-is l k.0 k.1) in
@@ -429,7 +431,7 @@ module _ (g : Graph) (plan : List Region) (w capacity : ℕ) (pieces : List Piec
       let same : chain_of (x.1).first (x.1).behind (outputs_in g x.1) ≡ part = cc in
       let s = by-source (λ part. i < inputs part → (s : ℕ) × (slice_get (connections (x.1).first) i ≡ Some s)) (x.1).first (x.1).behind (outputs_in g x.1)
       (λ e below. absurd (let k : i < 0 = below in omega (arith, k)))
-      (λ e below. item-below (connections (x.1).first) i (let k = as-many (x.1).first in let b : i < length (ports (x.1).first) = below in omega (arith, k, b)))
+      (λ e below. get_below (connections (x.1).first) i (let k = input_count (x.1).first in let b : i < length (ports (x.1).first) = below in omega (arith, k, b)))
       (subst (λ part. i < inputs part) (sym same) lt) in
       ap (λ d. times (leads d i) (links_of g plan w pieces)) (let z : e ≡ x.0 = omega (arith, sum) in z) ∙ count-entry j i s.0 x at s.1
   input-once j (suc k) e i x None part at none sum is lt = absurd (cc)
@@ -460,7 +462,7 @@ module _ (g : Graph) (plan : List Region) (w capacity : ℕ) (pieces : List Piec
 
   pub fed : (e i : ℕ) → e < net.size → i < inputs (net.part e) → Fed net e i
   fed e i lt below =
-      let p = item-below (parts_at g plan w pieces) e lt in
+      let p = get_below (parts_at g plan w pieces) e lt in
       let q = part-of g plan w 0 pieces e p.0 p.1 in
       let sum : 0 + e ≡ q.spot.0 + q.offset = q.sum in
       let once = input-once q.place q.offset e i q.spot (region_in plan q.spot.1) p.0 q.at refl (omega (arith, sum)) q.is (subst (λ part. i < inputs part) (part-is e p.0 p.1) below) in
@@ -522,7 +524,7 @@ module _ (g : Graph) (plan : List Region) (w capacity : ℕ) (pieces : List Piec
 
   led : (e o : ℕ) → e < net.size → o < outputs (net.part e) → Led net e o
   led e o lt below =
-      let p = item-below (parts_at g plan w pieces) e lt in
+      let p = get_below (parts_at g plan w pieces) e lt in
       let q = part-of g plan w 0 pieces e p.0 p.1 in
       let sum : 0 + e ≡ q.spot.0 + q.offset = q.sum in
       led-at q.place q.offset e o q.spot (region_in plan q.spot.1) p.0 q.at refl (omega (arith, sum)) q.is (subst (λ part. o < outputs part) (part-is e p.0 p.1) below)
@@ -565,14 +567,14 @@ module _ (g : Graph) (plan : List Region) (w capacity : ℕ) (pieces : List Piec
 
   splitter-of : (e : ℕ) (rp : RegionPart) → e < net.size → net.part e ≡ Splitter rp → RegionOf e rp 0
   splitter-of e rp lt is =
-      let p = item-below (parts_at g plan w pieces) e lt in
+      let p = get_below (parts_at g plan w pieces) e lt in
       let q = part-of g plan w 0 pieces e p.0 p.1 in
       let sum : 0 + e ≡ q.spot.0 + q.offset = q.sum in
       splitter-by q.place q.offset e q.spot (region_in plan q.spot.1) p.0 rp q.at refl (omega (arith, sum)) q.is (sym (part-is e p.0 p.1) ∙ is)
 
   merger-of : (e : ℕ) (rp : RegionPart) (outs : List ℕ) → e < net.size → net.part e ≡ Merger rp outs → RegionOf e rp (suc w)
   merger-of e rp outs lt is =
-      let p = item-below (parts_at g plan w pieces) e lt in
+      let p = get_below (parts_at g plan w pieces) e lt in
       let q = part-of g plan w 0 pieces e p.0 p.1 in
       let sum : 0 + e ≡ q.spot.0 + q.offset = q.sum in
       merger-by q.place q.offset e q.spot (region_in plan q.spot.1) p.0 rp outs q.at refl (omega (arith, sum)) q.is (sym (part-is e p.0 p.1) ∙ is)

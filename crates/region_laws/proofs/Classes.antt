@@ -3,6 +3,7 @@ use Rattle.std.proofs.Common.{◌≡◌, ℕ, zero, suc, ◌==◌, ◌||◌, not
 use Rattle.std.specs.Prelude.{nat_lt}
 use Rattle.std.specs.List.{AllByRecursion, list_all}
 use Rattle.std.proofs.lemmas.Bool.{and_from, and_parts}
+use Rattle.spl_value.proofs.Lists.{all_at}
 use Rattle.spl_value.specs.declared.item.Item.{Item}
 use Rattle.language_model.specs.declared.outs.Output.{Output}
 use Rattle.language_model.specs.declared.checked.CheckedClauses.{CheckedClauses}
@@ -13,7 +14,7 @@ use Rattle.stream_model.specs.CheckedMeaning.{graph_of}
 use Rattle.stream_model.specs.PortLaws.{has_connections}
 use Rattle.stream_model.proofs.CheckedOperators.{checked_fits}
 use Rattle.region_laws.proofs.FirstPorts.{first_of_custom}
-use Rattle.region_laws.proofs.RegionLaw.{all_at, checked_connected, ops_all}
+use Rattle.region_laws.proofs.RegionLaw.{checked_connected, ops_all}
 use Rattle.region_laws.proofs.SafeChains.{chain_members}
 use Rattle.region_laws.proofs.Unended.{IsMember}
 use Rattle.stream_model.specs.Bodies.{on_each}

@@ -12,11 +12,11 @@ use Rattle.language_model.specs.declared.checked.CheckedClauses.{CheckedClauses}
 use Rattle.language_model.specs.declared.checked.PortTypes.{PortTypes}
 use Rattle.spl_value.specs.Route.{part}
 use Rattle.stream_model.specs.Operators.{Operator}
-use Rattle.stream_model.specs.React.{Faults, Gives, Reaction, body, ended, ended_by}
+use Rattle.stream_model.specs.React.{body, ended}
 use Rattle.stream_model.specs.Replies.{is_live}
 use Rattle.stream_model.specs.Stages.{start}
 use Rattle.stream_model.specs.Stream.{Event, IsPrefix, any_closes, came}
-use Rattle.stream_model.proofs.Closings.{react_closed}
+use Rattle.stream_model.proofs.Closings.{react_closed, ended_by-last}
 use Rattle.stream_model.proofs.StageLaws.{one_in, one_in-parts, stage_at}
 use Rattle.channel_heads.proofs.ByNumber.{Tagged}
 use Rattle.channel_heads.proofs.Packets.{one_division}
@@ -43,13 +43,9 @@ any_rest I.Window xs e = e
 any_rest I.Final xs e = never (sym e)
 any_rest (I.Bad f) xs e = never (sym e)
 
-by_last : (op : Operator) (a : Reaction) → is_some (ended_by op true a) ≡ true
-by_last op (Gives outs) = refl
-by_last op (Faults kind) = refl
-
 final_ends : (n s : ℕ) (part : CheckedClauses) (functions : List Function) (types : PortTypes) (outs : List ℕ) (h : List Event)
     → is_some (ended (one_in n part functions types s outs) h (came 0 I.Final)) ≡ true
-final_ends n s part functions types outs h = by_last (one_in n part functions types s outs) (body (one_in n part functions types s outs) h (came 0 I.Final))
+final_ends n s part functions types outs h = ended_by-last (one_in n part functions types s outs) (body (one_in n part functions types s outs) h (came 0 I.Final))
 
 -- an item that closes a stream ends an operator that reads it alone
 pub closing_ends : (op : Operator) (s : ℕ) → op.ins ≡ (s ∷ []) ∷ [] → (S : List Tagged) (x : Item) → closes x ≡ true → ends op S x ≡ true

@@ -25,7 +25,7 @@ use Rattle.stream_model.specs.Replicas.{replica}
 use Rattle.stream_model.specs.Regions.{has_pulses, routing_by, rule_of, width_of}
 use Rattle.stream_model.specs.Sending.{replies}
 use Rattle.region_laws.proofs.Classes.{merge_one}
-use Rattle.region_laws.proofs.RegionLaw.{all_at, checked_connected, ops_all, region_some}
+use Rattle.region_laws.proofs.RegionLaw.{checked_connected, ops_all, region_some}
 use Rattle.region_laws.proofs.RegionFronts.{region_front_law, region_whole_law}
 use Rattle.region_laws.proofs.Splits.{split_law}
 use Rattle.region_laws.proofs.ReplicaState.{state_law}
@@ -35,6 +35,7 @@ use Rattle.spl_value.specs.Key.{has_place, key_of}
 use Rattle.spl_value.specs.Route.{part, route}
 use Rattle.spl_value.specs.declared.item.Item.TheVariants as I
 use Rattle.std.specs.Prelude.{◌==◌}
+use Rattle.spl_value.proofs.Lists.{all_at}
 use Rattle.region_laws.proofs.WholeMerges.{one_whole_law}
 
 -- ---- what a merger needs of a region of a plan

@@ -4,6 +4,7 @@ use Rattle.std.specs.Prelude.{filter, nat_le}
 use Rattle.std.specs.List.{AllByRecursion, concat, enumerate_from, list_all, list_any}
 use Rattle.std.specs.Option.{unwrap_or}
 use Rattle.std.proofs.lemmas.Bool.{and_parts, and_from, eqb-true}
+use Rattle.spl_value.proofs.Lists.{all_at}
 use Rattle.spl_value.specs.declared.item.Item.{Item}
 use Rattle.spl_value.specs.declared.packet.Packet.{Packet}
 use Rattle.spl_value.specs.declared.routing.Routing.{Routing}
@@ -43,7 +44,7 @@ use Rattle.region_laws.specs.RegionProper.{ProperLaw, entry_schema, exit_schema}
 use Rattle.region_laws.specs.PlanFronts.{region_sends}
 use Rattle.region_laws.proofs.NumberedItems.{items, items-cut}
 use Rattle.region_laws.proofs.RegionFronts.{falls-replies, items-replies, stops-replies}
-use Rattle.region_laws.proofs.RegionLaw.{all_at, checked_connected, ops_all, region_some}
+use Rattle.region_laws.proofs.RegionLaw.{checked_connected, ops_all, region_some}
 use Rattle.region_laws.proofs.SafeChains.{chain_members}
 use Rattle.region_laws.proofs.Splits.{split_law}
 use Rattle.region_laws.proofs.Stagewise.{by_operators, stage_gives, staged}

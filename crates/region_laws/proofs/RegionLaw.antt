@@ -3,6 +3,7 @@ use Rattle.std.proofs.Common.{◌≡◌, ◌<◌, ◌≤◌, ℕ, zero, suc, ◌
 use Rattle.std.specs.List.{AllByRecursion, concat, enumerate_from, list_all}
 use Rattle.std.specs.Option.{option_map_or}
 use Rattle.std.proofs.lemmas.Bool.{eqb-true, eq-eqb}
+use Rattle.spl_value.proofs.Lists.{all_at}
 use Rattle.spl_value.specs.declared.item.Item.{Item}
 use Rattle.spl_value.specs.declared.item.Item.TheVariants as I
 use Rattle.spl_value.specs.declared.routing.Routing.{Routing}
@@ -139,11 +140,6 @@ region_some g plan i region p at some = go region.ops refl some where
   go : (ns : List ℕ) → region.ops ≡ ns → is_empty ns ≡ false → is_empty (ops_of g ns) ≡ false
   go [] e h = absurd (let no : true ≡ false = h in cc)
   go (n ∷ ns) e h = found (slice_get g.ops n) ns (there n (subst (λ ms. 1 ≤ how_often n ms) (sym e) (first n ns)))
-
-pub all_at : {A : Type 0} (P : A → Type 0) (xs : List A) (i : ℕ) (x : A) → AllByRecursion P xs → slice_get xs i ≡ Some x → P x
-all_at P [] i x h at = absurd (let no : None ≡ Some x = at in cc)
-all_at P (y ∷ xs) zero x h at = let same : y ≡ x = cc in subst P same h.0
-all_at P (y ∷ xs) (suc i) x h at = all_at P xs i x h.1 at
 
 pub region_law : RegionLaw
 region_law c plan i region width items keeps is at positive =

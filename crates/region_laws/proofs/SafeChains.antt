@@ -4,6 +4,7 @@ use Rattle.std.specs.Prelude.{filter}
 use Rattle.std.specs.List.{AllByRecursion, concat, list_all, list_any}
 use Rattle.std.specs.Option.{option_and_then, option_map_or}
 use Rattle.std.proofs.lemmas.Bool.{and_parts, eqb-true, eq-eqb}
+use Rattle.spl_value.proofs.SegmentLaws.{not_true}
 use Rattle.spl_value.specs.Key.{has_place}
 use Rattle.spl_value.specs.declared.routing.Routing.{Routing}
 use Rattle.spl_value.specs.declared.routing.Routing.TheVariants.{Key}
@@ -46,10 +47,6 @@ keeps_of : (op : Operator) (s : ℕ) → op.ins ≡ (s ∷ []) ∷ [] → (kind 
 keeps_of op s one K.Stateless e h = stateless_law op s one e
 keeps_of op s one (K.Keyed places) e h = keyed_law op s places one e
 keeps_of op s one K.Whole e h = never (sym h)
-
-not_true : (b : Bool) → not b ≡ true → b ≡ false
-not_true true h = never h
-not_true false h = refl
 
 pub member_of : (op : Operator) → is_eligible op ≡ true → has_connections op ≡ true → IsMember op
 member_of op h connected =
