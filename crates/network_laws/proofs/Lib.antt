@@ -18,3 +18,4 @@ pub mod KeyedNets
 pub mod Pouring
 pub mod Schemas
 pub mod CheckedPaths
+pub mod Counting

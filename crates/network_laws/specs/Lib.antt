@@ -8,4 +8,5 @@ pub mod PickedLaws
 pub mod Propers
 pub mod PlannedLaws
 pub mod SchemaLaws
+pub mod CountLaws
 pub mod examples

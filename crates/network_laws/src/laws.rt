@@ -1,3 +1,4 @@
+ghost use Rattle.network_laws.specs.CountLaws.{ChannelCounts, PlainCounts};
 ghost use Rattle.network_laws.specs.Flowing.{JoinedAreInProgress, LegalAreInProgress, LegalJoins, ProgressFlowLaw, SettledFlowLaw};
 ghost use Rattle.network_laws.specs.JoinedLaws.{CarriedLaw, FlowLaw, JoinedGivesLaw, JoinedLaw, MeetLaw, PouredLaw, SettledGivesLaw, SettledLaw, WholeLaw};
 ghost use Rattle.network_laws.specs.LegalLaws.{LegalLaw, MomentLaw, PlainLaw};
@@ -82,4 +83,11 @@ pub fn planned_law()
     ensures settled { RunsSettled }
     ensures legal { RunsLegal }
     ensures fused { FusedSettled }
+{}
+
+/// The counts of a run are those of the graph where no region runs in replicas. Where one does, they are how many items
+/// went from its splitter to each channel.
+pub fn counts_law()
+    ensures plain { PlainCounts }
+    ensures channels { ChannelCounts }
 {}

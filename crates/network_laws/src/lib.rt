@@ -5,6 +5,9 @@ mod laws;
 mod literals;
 
 pub use laws::{
-    flow_law, joined_law, legal_law, picked_law, planned_law, proper_law, regions_law, settled_law,
+    counts_law, flow_law, joined_law, legal_law, picked_law, planned_law, proper_law, regions_law,
+    settled_law,
 };
-pub use literals::{keys_on_literals, networks_on_literals, regions_on_literals};
+pub use literals::{
+    counts_on_literals, keys_on_literals, networks_on_literals, regions_on_literals,
+};

@@ -1,20 +1,23 @@
 ghost use Rattle.network_laws.specs.RegionStreams.{RegionsHold};
 ghost use Rattle.network_laws.specs.RegionLaws.{RegionsObey};
 ghost use Rattle.list_engine.specs.examples.Chain.{chain};
+ghost use Rattle.pe_fusion.specs.Counts.{channel_counts, planned_counts};
 ghost use Rattle.pe_fusion.specs.FusedNets.{fused_net};
+ghost use Rattle.pe_fusion.specs.Pieces.{replicated};
 ghost use Rattle.network_laws.specs.PlannedLaws.{RunsPlan};
 ghost use Rattle.network_laws.specs.Propers.{HasSchema};
 ghost use Rattle.network_laws.specs.examples.CheckedPath.{chain_plan, checked_path, path_plan};
 ghost use Rattle.network_laws.specs.examples.KeyedNet.{keyed_net};
 ghost use Rattle.network_laws.specs.examples.PathNet.{cut_list, no_entries, path_list, path_net, path_rows, some_graph};
-ghost use Rattle.network_laws.specs.examples.RegionNet.{region_list, region_meaning, region_net};
+ghost use Rattle.network_laws.specs.examples.RegionNet.{filter_region, region_list, region_meaning, region_net};
 ghost use Rattle.network_model.specs.Flow.{IsUnder};
 ghost use Rattle.network_model.specs.Joined.{lists_of};
 ghost use Rattle.network_model.specs.Legal.{AllDone, Clean, IsLegal};
 ghost use Rattle.network_model.specs.States.{after_all, begin};
 ghost use Rattle.network_model.specs.Wiring.{IsWired};
 ghost use Rattle.region_laws.specs.examples.SomeReplicas.{filtered_sums};
-ghost use Rattle.std.specs.Prelude.{ℕ, []};
+ghost use Rattle.std.specs.Prelude.{◌≡◌, ℕ, [], ◌∷◌};
+ghost use Rattle.spl_value.specs.declared.item.Item.TheVariants as I;
 ghost use Rattle.stream_model.specs.CheckedMeaning.{graph_of, schema_at};
 ghost use Rattle.stream_model.specs.Meaning.{Entries, Lists, Meaning, meaning};
 
@@ -52,4 +55,16 @@ pub fn keys_on_literals()
     ensures obeys { RegionsObey keyed_net }
     ensures regions { (rows : Lists) (entries : Entries) → RegionsHold keyed_net (meaning filtered_sums rows entries) }
     ensures legal { IsLegal keyed_net [] }
+{}
+
+/// What is counted of the filter's region: of an empty file at width 2, and of three rows in turn at width 3; and at width
+/// 1 no region runs in replicas.
+pub fn counts_on_literals()
+    ensures of_none { (planned_counts some_graph path_plan 2 region_meaning).channels
+        ≡ record { region = 0; channel = 0; events = 1 } ∷ record { region = 0; channel = 1; events = 0 } ∷ [] }
+    ensures of_three { channel_counts (record filter_region { width = 3 })
+        (I.Tuple [] ∷ I.Tuple [] ∷ I.Tuple [] ∷ I.Window ∷ I.Final ∷ []) 0 0 3
+        ≡ record { region = 0; channel = 0; events = 2 } ∷ record { region = 0; channel = 1; events = 2 }
+        ∷ record { region = 0; channel = 2; events = 1 } ∷ [] }
+    ensures alone { replicated 1 path_plan ≡ [] }
 {}

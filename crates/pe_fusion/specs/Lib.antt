@@ -2,6 +2,7 @@ pub mod Totals
 pub mod Readers
 pub mod Pieces
 pub mod FusedNets
+pub mod Counts
 pub mod Shapes
 pub mod Fusing
 pub mod FusionLaws
