@@ -19,3 +19,5 @@ pub mod Pouring
 pub mod Schemas
 pub mod CheckedPaths
 pub mod Counting
+pub mod Rows
+pub mod CheckedSums

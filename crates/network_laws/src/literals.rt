@@ -7,6 +7,7 @@ ghost use Rattle.pe_fusion.specs.Pieces.{replicated};
 ghost use Rattle.network_laws.specs.PlannedLaws.{RunsPlan};
 ghost use Rattle.network_laws.specs.Propers.{HasSchema};
 ghost use Rattle.network_laws.specs.examples.CheckedPath.{chain_plan, checked_path, path_plan};
+ghost use Rattle.network_laws.specs.examples.CheckedSums.{checked_sums, sums_plan};
 ghost use Rattle.network_laws.specs.examples.KeyedNet.{keyed_net};
 ghost use Rattle.network_laws.specs.examples.PathNet.{cut_list, no_entries, path_list, path_net, path_rows, some_graph};
 ghost use Rattle.network_laws.specs.examples.RegionNet.{filter_region, region_list, region_meaning, region_net};
@@ -49,12 +50,14 @@ pub fn regions_on_literals()
     ensures fused { (width capacity : ℕ) → RunsPlan chain chain_plan width (fused_net (graph_of chain) chain_plan width capacity) }
 {}
 
-/// A source, a Filter and an Aggregate by keys as a region of two channels that merges by pulses, and a sink.
+/// A source, a Filter and an Aggregate by keys as a region of two channels that merges by pulses, and a sink, which run
+/// their program at width 2.
 pub fn keys_on_literals()
     ensures wired { IsWired filtered_sums keyed_net }
     ensures obeys { RegionsObey keyed_net }
     ensures regions { (rows : Lists) (entries : Entries) → RegionsHold keyed_net (meaning filtered_sums rows entries) }
     ensures legal { IsLegal keyed_net [] }
+    ensures runs { RunsPlan checked_sums sums_plan 2 keyed_net }
 {}
 
 /// What is counted of the filter's region: of an empty file at width 2, and of three rows in turn at width 3; and at width
