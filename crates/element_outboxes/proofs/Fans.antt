@@ -13,7 +13,7 @@ use Rattle.element_outboxes.specs.Waiting.{all_out, fan_outputs, fans_from, outp
 
 -- ---- outputs in a row
 
-numbers-more : (first n : ℕ) → numbers_from first (n + 1) ≡ numbers_from first n ++ (first + n) ∷ []
+pub numbers-more : (first n : ℕ) → numbers_from first (n + 1) ≡ numbers_from first n ++ (first + n) ∷ []
 numbers-more first zero = let e : first ≡ first + 0 = omega arith in ap (λ k. k ∷ []) e
 numbers-more first (suc n) =
     ap (numbers_from first) (let e : suc n + 1 ≡ suc (n + 1) = omega arith in e)

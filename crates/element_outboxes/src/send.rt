@@ -13,7 +13,7 @@ use std::alloc::Global;
 
 /// Whether nothing follows the item in a stream.
 #[inline(always)]
-fn closes(item: &Item) -> bool
+pub fn closes(item: &Item) -> bool
     ensures { result ≡ closes_as item.now }
 {
     match item {

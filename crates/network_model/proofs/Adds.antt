@@ -129,7 +129,7 @@ nothing_law (Merger region outs) = ap (λ items. send_all outs (map (output 0) i
 
 -- ---- sinks
 
-tuples_in-append : (xs ys : List Item) → tuples_in (xs ++ ys) ≡ tuples_in xs ++ tuples_in ys
+pub tuples_in-append : (xs ys : List Item) → tuples_in (xs ++ ys) ≡ tuples_in xs ++ tuples_in ys
 tuples_in-append [] ys = refl
 tuples_in-append (I.Tuple vs ∷ xs) ys = ap (λ z. vs ∷ z) (tuples_in-append xs ys)
 tuples_in-append (I.Window ∷ xs) ys = tuples_in-append xs ys

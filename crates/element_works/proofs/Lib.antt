@@ -1,0 +1,4 @@
+pub mod Adding
+pub mod ItemsMore
+pub mod OneSplit
+pub mod Replies
