@@ -1,0 +1,6 @@
+use Rattle.std.proofs.Common.{IsTrue}
+use Rattle.spl_value.specs.Pairs.{are_pairs}
+use Rattle.value_tests.proofs.histories.fill.Given as goal
+
+abbrev pub invariant-loop-step : goal.invariant-loop-step
+invariant-loop-step l = IsTrue (are_pairs l.pairs)
