@@ -21,3 +21,4 @@ pub mod CheckedPaths
 pub mod Counting
 pub mod Rows
 pub mod CheckedSums
+pub mod Carrying

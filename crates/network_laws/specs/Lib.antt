@@ -1,5 +1,6 @@
 pub mod Shaped
 pub mod RegionStreams
+pub mod Carrying
 pub mod Flowing
 pub mod JoinedLaws
 pub mod LegalLaws

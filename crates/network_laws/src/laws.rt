@@ -1,3 +1,4 @@
+ghost use Rattle.network_laws.specs.Carrying.{CarriedFront, CarriedOnce, FlowsCarried};
 ghost use Rattle.network_laws.specs.CountLaws.{ChannelCounts, PlainCounts};
 ghost use Rattle.network_laws.specs.Flowing.{JoinedAreInProgress, LegalAreInProgress, LegalJoins, ProgressFlowLaw, SettledFlowLaw};
 ghost use Rattle.network_laws.specs.JoinedLaws.{CarriedLaw, FlowLaw, JoinedGivesLaw, JoinedLaw, MeetLaw, PouredLaw, SettledGivesLaw, SettledLaw, WholeLaw};
@@ -90,4 +91,12 @@ pub fn planned_law()
 pub fn counts_law()
     ensures plain { PlainCounts }
     ensures channels { ChannelCounts }
+{}
+
+/// Where every chain has taken its events in the meaning, and every splitter, replica and merger all that is owed to it, it
+/// is determined what each link carries: its flow where each merger gives all of its region's stream, and else a front.
+pub fn carried_law()
+    ensures once { CarriedOnce }
+    ensures flows { FlowsCarried }
+    ensures front { CarriedFront }
 {}

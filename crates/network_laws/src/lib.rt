@@ -5,8 +5,8 @@ mod laws;
 mod literals;
 
 pub use laws::{
-    counts_law, flow_law, joined_law, legal_law, picked_law, planned_law, proper_law, regions_law,
-    settled_law,
+    carried_law, counts_law, flow_law, joined_law, legal_law, picked_law, planned_law, proper_law,
+    regions_law, settled_law,
 };
 pub use literals::{
     counts_on_literals, keys_on_literals, networks_on_literals, regions_on_literals,
