@@ -102,7 +102,7 @@ entries-less m op ops outs entries t cut recorded under packets = go (connection
         (front-items (without_cut (t.packets 0)) (without_cut (expects m (FromLinks op ops outs) 0)) (packets 0)))
     go (s ∷ u ∷ ss) e = front-same t.entries entries (under (ap has_several e))
 
-none-found : (t : Taken) → t.entries ≡ [] → finds_items (item_lists t) t.entries ≡ true
+pub none-found : (t : Taken) → t.entries ≡ [] → finds_items (item_lists t) t.entries ≡ true
 none-found t e = ap (finds_items (item_lists t)) e
 
 less-full : (m : Meaning) (rows : Lists) (entries : Entries) (part : Part) (t : Taken) (sent : ℕ → List Packet) → IsInProgress part t sent
@@ -205,7 +205,7 @@ module _ (net : Net) (m : Meaning) (rows : Lists) (entries : Entries) (lists : N
       (front-on_output o (owed (net.part e) t) (owed (net.part e) u) ((f.is_net.parts e size).grows t u (less-at e size) (f.binds e t size)))
 
   -- the flow of a link has no `Cut`, and nothing behind `Close`
-  flow-without_cut : (l : ℕ) → l < net.links → without_cut (flow net rows m l) ≡ flow net rows m l
+  pub flow-without_cut : (l : ℕ) → l < net.links → without_cut (flow net rows m l) ≡ flow net rows m l
   flow-without_cut l lt =
       let owes = f.owes (net.link l).from (lists.taken (net.link l).from) (net.link l).output (from-within l lt) (f.is_net.output l lt) in
       ap without_cut (sym owes) ∙ (f.is_net.parts (net.link l).from (from-within l lt)).no_cut (all-of (net.link l).from) (net.link l).output ∙ owes

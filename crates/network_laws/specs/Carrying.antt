@@ -8,10 +8,10 @@ use Rattle.stream_model.specs.Stages.{start}
 use Rattle.stream_model.specs.Meaning.{Graph, Lists, Entries, Meaning, meaning}
 use Rattle.stream_model.specs.declared.outgoing.Outgoing.{Outgoing}
 use Rattle.stream_model.specs.Sending.{on_output, outgoing, replies}
-use Rattle.network_model.specs.Packets.{items_in}
+use Rattle.network_model.specs.Packets.{items_in, without_cut}
 use Rattle.network_model.specs.Networks.{Part, FromSource, FromLinks, Splitter, Replica, Merger, inputs, Net}
 use Rattle.network_model.specs.Owed.{region_splits, send_all}
-use Rattle.network_model.specs.Joined.{NetworkLists}
+use Rattle.network_model.specs.Joined.{InProgress, NetworkLists, owed_on, sent_on, Settled, taken_from}
 use Rattle.network_model.specs.Wiring.{IsWired}
 use Rattle.network_model.specs.Flow.{expects, flow, flows, IsUnder}
 use Rattle.network_laws.specs.RegionStreams.{RegionsHold, RegionsMeet}
@@ -33,7 +33,12 @@ pub record AreCarried (net : Net) (rows : Lists) (m : Meaning) (carries : ℕ �
   pub taken : (l : ℕ) → l < net.links → enters (net.link l).to (net.link l).input ≡ carries l
   pub no_others : (e i : ℕ) → e < net.size → inputs (net.part e) ≤ i → enters e i ≡ []
 
--- by this it is determined what links carry
+-- there are such lists for every network that runs a graph
+abbrev pub CarriedThere : Type 0
+CarriedThere = (g : Graph) (net : Net) (rows : Lists) (m : Meaning) → IsWired g net
+    → (carries : ℕ → List Packet) × (enters : ℕ → ℕ → List Packet) × AreCarried net rows m carries enters
+
+-- and no others
 abbrev pub CarriedOnce : Type 0
 CarriedOnce = (g : Graph) (net : Net) (rows : Lists) (m : Meaning) (carries others : ℕ → List Packet)
     (enters other_enters : ℕ → ℕ → List Packet) → IsWired g net → AreCarried net rows m carries enters
@@ -53,3 +58,19 @@ CarriedFront = (g : Graph) (net : Net) (lists : NetworkLists) (rows : Lists) (en
     → RegionsHold net (meaning g rows entries) → IsUnder net lists rows entries
     → AreCarried net rows (meaning g rows entries) carries enters → (l : ℕ) → l < net.links
     → IsPrefix (carries l) (flow net rows (meaning g rows entries) l)
+
+-- At any moment, what went over a link is a front of this, but for `Cut`, and so is what its sender owes on it.
+abbrev pub CarriedProgress : Type 0
+CarriedProgress = (g : Graph) (net : Net) (lists : NetworkLists) (rows : Lists) (entries : Entries)
+    (carries : ℕ → List Packet) (enters : ℕ → ℕ → List Packet) → IsWired g net
+    → RegionsHold net (meaning g rows entries) → InProgress net lists → IsUnder net lists rows entries
+    → AreCarried net rows (meaning g rows entries) carries enters → (l : ℕ) → l < net.links
+    → IsPrefix (without_cut (sent_on net lists l)) (carries l) × IsPrefix (owed_on net lists l) (carries l)
+
+-- In settled lists it is all of that.
+abbrev pub SettledCarried : Type 0
+SettledCarried = (g : Graph) (net : Net) (lists : NetworkLists) (rows : Lists) (entries : Entries)
+    (carries : ℕ → List Packet) (enters : ℕ → ℕ → List Packet) → IsWired g net
+    → RegionsHold net (meaning g rows entries) → Settled net lists → IsUnder net lists rows entries
+    → AreCarried net rows (meaning g rows entries) carries enters → (l : ℕ) → l < net.links
+    → (sent_on net lists l ≡ carries l) × (taken_from net lists l ≡ carries l)

@@ -1,4 +1,4 @@
-ghost use Rattle.network_laws.specs.Carrying.{CarriedFront, CarriedOnce, FlowsCarried};
+ghost use Rattle.network_laws.specs.Carrying.{CarriedFront, CarriedOnce, CarriedProgress, CarriedThere, FlowsCarried, SettledCarried};
 ghost use Rattle.network_laws.specs.CountLaws.{ChannelCounts, PlainCounts};
 ghost use Rattle.network_laws.specs.Flowing.{JoinedAreInProgress, LegalAreInProgress, LegalJoins, ProgressFlowLaw, SettledFlowLaw};
 ghost use Rattle.network_laws.specs.JoinedLaws.{CarriedLaw, FlowLaw, JoinedGivesLaw, JoinedLaw, MeetLaw, PouredLaw, SettledGivesLaw, SettledLaw, WholeLaw};
@@ -94,9 +94,13 @@ pub fn counts_law()
 {}
 
 /// Where every chain has taken its events in the meaning, and every splitter, replica and merger all that is owed to it, it
-/// is determined what each link carries: its flow where each merger gives all of its region's stream, and else a front.
+/// is determined what each link carries: its flow where each merger gives all of its region's stream, and else a front. What
+/// its sender owes on it at any moment is a front of what it carries, and in settled lists all of that went over it.
 pub fn carried_law()
+    ensures there { CarriedThere }
     ensures once { CarriedOnce }
     ensures flows { FlowsCarried }
     ensures front { CarriedFront }
+    ensures progress { CarriedProgress }
+    ensures settled { SettledCarried }
 {}
