@@ -3,7 +3,7 @@ use Prim.Native.Nat.{zero, suc}
 use Rattle.std.proofs.Common.{ℕ, ◌+◌, ◌%◌, ◌==◌, nat_lt, ◌&&◌, ◌||◌, not, Bool, true, false, cond, List, [], ◌∷◌, ◌≡◌, ◌⊎◌, refl, subst, length, map, Option, Some, None, option_map, slice_get, inl, inr, sym, ◌∙◌, arith, ap, ◌++◌, ◌<◌, append-nil}
 use Rattle.std.specs.Prelude.{filter, is_some}
 use Rattle.std.specs.Option.{option_and_then, option_map_or}
-use Rattle.std.proofs.lemmas.Bool.{and_parts, ltb-true, eqb-true, cond-true, and_from, or_left, or_right, lt-ltb, eq-eqb}
+use Rattle.std.proofs.lemmas.Bool.{and_parts, ltb-true, eqb-true, cond-true, and_from, or_cases, or_left, or_right, lt-ltb, eq-eqb}
 use Rattle.std.proofs.lemmas.Nat.{mod_below}
 use Rattle.spl_value.specs.declared.item.Item.{Item}
 use Rattle.spl_value.specs.declared.item.Item.TheVariants as I
@@ -27,10 +27,6 @@ use Rattle.network_model.proofs.Receipts.{read_in-append}
 use Rattle.spl_value.proofs.SegmentLaws.{not_true}
 use Rattle.network_laws.specs.PickedLaws.{ChosenLaw, PickedLaw, EnabledLaw, EventLaw, NoneLaw, ShortLaw}
 use Rattle.network_laws.proofs.RegionSends.{closed-cut}
-
-either : (b c : Bool) → (b || c) ≡ true → (b ≡ true) ⊎ (c ≡ true)
-either true c h = inl refl
-either false c h = inr h
 
 some-of : {A : Type 0} (o : Option A) → is_some o ≡ true → (x : A) × (o ≡ Some x)
 some-of None h = absurd (let f : false ≡ true = h in cc)
@@ -74,7 +70,7 @@ pops-enabled net st l p h front =
       idle = empty-nil a.outbox second.0;
       front = front;
       is_open = not_true (has_last (popped i (all_taken a))) third.0;
-      wanted = either a.cut (wants part (taken_of part a.kept) i) third.1;
+      wanted = or_cases a.cut (wants part (taken_of part a.kept) i) third.1;
     }
 
 pushes-enabled : (net : Net) (st : State) (l : ℕ) (p : Packet) → may_happen net st (PushAt l) ≡ true → front_for (net.link l).output (st (net.link l).from).outbox ≡ Some p → Enabled net st (Push l p)

@@ -1,9 +1,10 @@
 -- What the links inside a region carry is proper.
-use Rattle.std.proofs.Common.{◌≡◌, ◌<◌, ℕ, suc, ◌+◌, ◌==◌, ◌&&◌, ◌||◌, Bool, true, false, List, [], ◌∷◌, ◌++◌, map, length, refl, sym, ap, ◌∙◌, arith, cond, subst, Some, slice_get}
+use Rattle.std.proofs.Common.{◌≡◌, ◌<◌, ℕ, suc, ◌+◌, ◌==◌, ◌&&◌, Bool, true, false, List, [], ◌∷◌, ◌++◌, map, length, refl, sym, ap, ◌∙◌, arith, cond, subst, Some, slice_get}
 use Rattle.std.specs.Prelude.{filter, nat_le}
 use Rattle.std.specs.List.{AllByRecursion, concat, enumerate_from, list_all, list_any}
 use Rattle.std.specs.Option.{unwrap_or}
 use Rattle.std.proofs.lemmas.Bool.{and_parts, and_from, eqb-true}
+use Rattle.spl_value.proofs.Bools.{or_false}
 use Rattle.spl_value.proofs.Lists.{all_at}
 use Rattle.spl_value.specs.declared.item.Item.{Item}
 use Rattle.spl_value.specs.declared.packet.Packet.{Packet}
@@ -150,17 +151,13 @@ types_of c keeps n op at =
           ∙ ap (λ (outs : List ℕ). unwrap_or (slice_get (map (schema_at c) outs) 0) []) (sym (ap (λ (o : Operator). o.outs) is.same) ∙ e);
     }
 
-or_none : (b : Bool) → (b || false) ≡ true → b ≡ true
-or_none true e = refl
-or_none false e = e
-
 -- an operator that follows another one in a chain reads the stream that this one makes
 same_stream : (g : Graph) (op next : Operator) (t s : ℕ) → op.outs ≡ t ∷ [] → next.ins ≡ (s ∷ []) ∷ [] → follows g op next ≡ true → s ≡ t
 same_stream g op next t s writes reads h =
     let all = ap (list_all (λ u. list_any (λ v. v == u) (connections next) && (length (filter (λ v. v == u) (concat (map connections g.ops))) == 1))) (sym writes) ∙ h in
     let one = and_parts (list_any (λ v. v == t) (connections next) && (length (filter (λ v. v == t) (concat (map connections g.ops))) == 1)) true all in
     let two = and_parts (list_any (λ v. v == t) (connections next)) (length (filter (λ v. v == t) (concat (map connections g.ops))) == 1) one.0 in
-    eqb-true s t (or_none (s == t) (ap (λ (ins : List (List ℕ)). list_any (λ v. v == t) (concat ins)) (sym reads) ∙ two.0))
+    eqb-true s t (sym (or_false (s == t)) ∙ ap (λ (ins : List (List ℕ)). list_any (λ v. v == t) (concat ins)) (sym reads) ∙ two.0)
 
 pub chain_typed : (c : CheckedGraph) (ops : List Operator) → AllByRecursion IsMember ops → AllByRecursion (TypesOf c) ops → is_chain (graph_of c) ops ≡ true → AreTyped ops
 chain_typed c [] ms ts h = tt
