@@ -1,0 +1,4 @@
+pub mod Sending
+pub mod Giving
+pub mod Wanting
+pub mod EachKind

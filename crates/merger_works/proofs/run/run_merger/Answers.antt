@@ -1,0 +1,19 @@
+use Rattle.std.proofs.Common.{◌<◌, ap, sym, refl, subst}
+use Rattle.channel_heads.specs.Held.{Held}
+use Rattle.merger_works.proofs.Giving.{fewer, giving_more, has_given, heads_in}
+use Rattle.merger_works.proofs.run.run_merger.Goals as goal
+
+pub items-smaller : goal.items-smaller
+items-smaller g c =
+    let r = c.in-Some.ensures.gives in
+    subst (λ (h : Held). heads_in h.heads < heads_in (g.M.Merge.held c.items.merger).heads) (sym r.3) (fewer r.0 r.1 c.in-Some.item (g.M.Merge.held c.items.merger) r.2)
+
+pub items-preserved : goal.items-preserved
+items-preserved g c =
+    giving_more g.M.Merge.held g.M.Merge.stands g.M.Merge.rule c.args.merger.now c.args.fans.now c.args.channel c.args.packet c.items.merger c.emit.new.self c.args.outbox.now c.items.outbox c.send_output.new.outbox c.in-Some.item
+    c.items.invariant c.in-Some.ensures.stands (ap (λ (h : Held). h.cut) c.in-Some.ensures.gives.3) c.in_ok-send_output-in-Some.ensures
+
+pub returns-in-None : goal.returns-in-None
+returns-in-None g c =
+    has_given g.M.Merge.held g.M.Merge.stands g.M.Merge.rule c.args.merger.now c.items.merger c.emit.new.self c.args.fans.now c.args.channel c.args.packet c.args.outbox.now c.items.outbox
+    c.items.invariant (c.in-None.ensures.whole refl) c.in-None.ensures.gives
