@@ -26,29 +26,29 @@ impl Answers for Fused {
     }
 }
 
-fn fused(width: u32, shown: Shown) -> Fused {
+fn fused_at(width: u32, shown: Shown) -> Fused {
     Fused { width, shown }
 }
 
 #[test]
 fn elements_and_links_are_those_that_the_rules_determine(rt: HostRuntime) -> Result<(), Untrue> {
     let alloc = rt.alloc();
-    expect(alloc, &fused(1, Shown::All), &[rows::ONE])
-        .and(expect(alloc, &fused(2, Shown::All), &[rows::TWO]))
-        .and(expect(alloc, &fused(4, Shown::All), &[rows::FOUR]))
+    expect(alloc, &fused_at(1, Shown::All), &[rows::ONE])
+        .and(expect(alloc, &fused_at(2, Shown::All), &[rows::TWO]))
+        .and(expect(alloc, &fused_at(4, Shown::All), &[rows::FOUR]))
 }
 
 #[test]
 fn elements_belong_to_workers_by_turns(rt: HostRuntime) -> Result<(), Untrue> {
-    expect(rt.alloc(), &fused(4, Shown::Groups(3)), &[rows::GROUPS])
+    expect(rt.alloc(), &fused_at(4, Shown::Groups(3)), &[rows::GROUPS])
 }
 
 #[test]
 fn elements_have_their_inputs_and_outputs(rt: HostRuntime) -> Result<(), Untrue> {
     let alloc = rt.alloc();
-    expect(alloc, &fused(1, Shown::Ports), &[rows::PORTS_AT_ONE]).and(expect(
+    expect(alloc, &fused_at(1, Shown::Ports), &[rows::PORTS_AT_ONE]).and(expect(
         alloc,
-        &fused(2, Shown::Ports),
+        &fused_at(2, Shown::Ports),
         &[rows::PORTS_AT_TWO],
     ))
 }
@@ -56,9 +56,9 @@ fn elements_have_their_inputs_and_outputs(rt: HostRuntime) -> Result<(), Untrue>
 #[test]
 fn wide_programs_have_at_most_2048_elements(rt: HostRuntime) -> Result<(), Untrue> {
     let alloc = rt.alloc();
-    expect_spread(alloc, &fused(15, Shown::Size), rows::FIFTEEN).and(expect_spread(
+    expect_spread(alloc, &fused_at(15, Shown::Size), rows::FIFTEEN).and(expect_spread(
         alloc,
-        &fused(16, Shown::Size),
+        &fused_at(16, Shown::Size),
         rows::SIXTEEN,
     ))
 }
