@@ -1,0 +1,9 @@
+pub mod Blanks
+pub mod Complete
+pub mod Pieces
+pub mod ReadingLaws
+pub mod Rows
+pub mod Sound
+pub mod Steps
+pub mod TextLaws
+pub mod Written

@@ -1,0 +1,12 @@
+//! What is written is read back, as no other tuple.
+ghost use Rattle.txt_format.specs.TxtLaws.{WrittenLaw, OneTupleLaw};
+
+/// The text of a tuple that fits its schema spells that tuple, where the attributes' names are words.
+pub fn written_law()
+    ensures { WrittenLaw }
+{}
+
+/// A line spells one tuple of a schema at most.
+pub fn one_tuple_law()
+    ensures { OneTupleLaw }
+{}
