@@ -138,6 +138,13 @@ still b f t r w n s =
     ap (λ x. standing_at b.places.items x ++ b.waiting.items) (r ∙ n) ∙ w
     ∙ sym (ap (λ x. standing_at f.places.items x ++ f.waiting.items) n) ∙ s
 
+pub still-none : (before tuples : Tuples) → before.ready ≡ tuples.ready → before.waiting.items ≡ tuples.waiting.items → sink_waits tuples ≡ [] → sink_waits before ≡ []
+still-none b t r w none = go t.ready r none
+  where
+    go : (x : Option ℕ) → b.ready ≡ x → standing_at t.places.items x ++ t.waiting.items ≡ [] → standing_at b.places.items b.ready ++ b.waiting.items ≡ []
+    go None e n = ap (λ x. standing_at b.places.items x ++ b.waiting.items) e ∙ w ∙ n
+    go (Some at) e n = cc
+
 -- ---- one item more
 
 module _ {R : Type 0} (spec : R → Operator) (stands : R → List Event → Type 0) where

@@ -5,7 +5,7 @@ ghost use Rattle.operator_chains.specs.Places.{IsBelow, given_by};
 ghost use Rattle.operator_chains.specs.Standing.{MayFeed};
 ghost use Rattle.spl_value.specs.declared.item.Item.TheVariants as I;
 ghost use Rattle.element_outboxes.specs.Waiting.{waits};
-ghost use Rattle.element_works.specs.Tuples.{room_of};
+ghost use Rattle.element_works.specs.Tuples.{room_of, sink_waits};
 ghost use Rattle.element_works.specs.Works.{HasAnswered, HasReplied, MayAnswer, MayReply, answers};
 
 use crate::chains::feed_first;
@@ -73,6 +73,8 @@ fn reply_given(
     requires below { IsBelow (room_of tuples.old) given }
     ensures replies { IfOk result (λ _. waits outbox.new ≡ waits outbox.old ++ answers number (given_by given tuples.old.places.items tuples.old.outs)) }
     ensures room { room_of tuples.new ≡ room_of tuples.old }
+    ensures ready { tuples.new.ready ≡ tuples.old.ready }
+    ensures waiting { tuples.new.waiting.items ≡ tuples.old.waiting.items }
 {
     match given {
         Given::Tuple(at) => {
@@ -100,6 +102,8 @@ fn reply_to_tuple<R: React>(
 ) -> Result<(), NoMemory>
     requires may { MayAnswer R.spec R.stands chain.old tuples.old (I.Tuple tuple) }
     ensures answers { IfOk result (λ _. HasAnswered R.spec R.stands chain.old chain.new tuples.old tuples.new outbox.old outbox.new number (I.Tuple tuple)) }
+    ensures ready { tuples.new.ready ≡ tuples.old.ready }
+    ensures waiting { tuples.new.waiting.items ≡ tuples.old.waiting.items }
 {
     let mut tuple = tuple;
     tuples.enter(&mut tuple);
@@ -119,6 +123,8 @@ fn reply_to_item<R: React>(
 ) -> Result<(), NoMemory>
     requires may { MayAnswer R.spec R.stands chain.old tuples.old item }
     ensures answers { IfOk result (λ _. HasAnswered R.spec R.stands chain.old chain.new tuples.old tuples.new outbox.old outbox.new number item) }
+    ensures ready { tuples.new.ready ≡ tuples.old.ready }
+    ensures waiting { tuples.new.waiting.items ≡ tuples.old.waiting.items }
 {
     match item {
         Item::Tuple(tuple) => reply_to_tuple(alloc, chain, outbox, tuples, number, tuple),
@@ -129,7 +135,7 @@ fn reply_to_item<R: React>(
     }
 }
 
-/// Lets a replica take a packet but `Cut`.
+/// Lets a replica take a packet but `Cut`. No tuple waits for a sink: it has none.
 pub fn run_replica<R: React>(
     alloc: Global,
     chain: &mut Chain<R>,
@@ -139,6 +145,7 @@ pub fn run_replica<R: React>(
 ) -> Result<(), NoMemory>
     requires may { MayReply R.spec R.stands chain.old tuples.old packet }
     ensures replies { IfOk result (λ _. HasReplied R.spec R.stands chain.old chain.new tuples.old tuples.new outbox.old outbox.new packet) }
+    ensures idle { sink_waits tuples.old ≡ [] → sink_waits tuples.new ≡ [] }
 {
     match packet {
         Packet::Item { number, item } => {

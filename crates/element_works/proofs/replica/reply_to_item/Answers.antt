@@ -1,4 +1,4 @@
-use Rattle.std.proofs.Common.{◌∙◌, ◌++◌, ◌∷◌, [], ap, sym}
+use Rattle.std.proofs.Common.{◌∙◌, ◌++◌, ◌∷◌, [], ap, refl, sym}
 use Rattle.stream_model.specs.Stream.{came}
 use Rattle.element_outboxes.specs.Waiting.{waits}
 use Rattle.element_outboxes.proofs.Fans.{ok_then}
@@ -16,4 +16,6 @@ returns-in_ok-outs-in_default g c = record {
         replied ∙ ap (λ outs. waits c.args.outbox.now ++ answers c.args.number outs) f.0,
       ))
       c.reply.ensures;
+  ready = refl;
+  waiting = refl;
 }
