@@ -2,3 +2,4 @@ pub mod Inner
 pub mod Entering
 pub mod Passing
 pub mod FrontTuples
+pub mod Adding

@@ -1,7 +1,7 @@
 //! A chain of operators.
-ghost use Rattle.std.specs.Prelude.{◌≡◌, ◌∷◌, [], List, IfOk, length};
+ghost use Rattle.std.specs.Prelude.{◌≡◌, ◌∷◌, ◌++◌, [], List, IfOk, length};
 ghost use Rattle.spl_value.specs.declared.item.Item.TheVariants as I;
-ghost use Rattle.stream_model.specs.Stages.{Stage, gives_all, stage_after};
+ghost use Rattle.stream_model.specs.Stages.{Stage, gives_all, stage_after, start};
 ghost use Rattle.stream_model.specs.Stream.{Event, came};
 ghost use Rattle.stream_model.specs.Chains.{chain_gives, chain_after, stages_passed};
 ghost use Rattle.operator_chains.specs.Places.{IsBelow, given_by, tuple_at};
@@ -52,6 +52,29 @@ fn through<R: React>(
 }
 
 impl<R: React> Chain<R> {
+    /// No operator.
+    pub fn new(alloc: Global) -> Chain<R>
+        ensures { AtChain R.spec R.stands result [] }
+    {
+        Chain {
+            first: None,
+            others: Vec::new(alloc),
+        }
+    }
+
+    /// Adds an operator behind the others, which has taken nothing.
+    pub fn push(&mut self, operator: R) -> Result<(), NoMemory>
+        ensures adds { IfOk result (λ _. (ss : List Stage) → AtChain R.spec R.stands self.old ss → R.stands operator []
+            → AtChain R.spec R.stands self.new (ss ++ start (R.spec operator) ∷ [])) }
+    {
+        let slot = Slot::new(operator);
+        match self.first {
+            None => self.first = Some(slot),
+            Some(_) => self.others.push(slot)?,
+        }
+        Ok(())
+    }
+
     /// Lets the first operator take an item on an input, and passes on what it gives. What the last one gives.
     #[inline(always)]
     pub fn feed(&mut self, alloc: Global, input: u32, item: Item) -> Result<Outs, NoMemory>
