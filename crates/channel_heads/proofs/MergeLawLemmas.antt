@@ -177,7 +177,8 @@ module _ (rule : Rule) (w : ℕ) (h : Held) (taken : ℕ → List Packet) (given
 
 -- ---- every rule
 
-knows_pulses : (w lo high : ℕ) (taken : ℕ → List Packet) (gs : List Gift) → Climbs lo gs high → known_by_pulses w taken high ≡ true → Knows (known_by_pulses w taken) gs
+-- by pulses, what was given is known
+pub knows_pulses : (w lo high : ℕ) (taken : ℕ → List Packet) (gs : List Gift) → Climbs lo gs high → known_by_pulses w taken high ≡ true → Knows (known_by_pulses w taken) gs
 knows_pulses w lo high taken [] c k = tt
 knows_pulses w lo high taken (g ∷ gs) c k = (known_less w taken g.1.0 high (bound g.1.0 gs c.1) k, knows_pulses w g.1.0 high taken gs c.1 k) where
   bound : (lo : ℕ) (gs : List Gift) → Climbs lo gs high → lo ≤ high
@@ -252,7 +253,8 @@ none_known : (k : ℕ → Bool) (xs : List Tagged) → AllByRecursion (λ p. k p
 none_known k [] h = refl
 none_known k (x ∷ xs) h = take_while-cons (λ (p : Tagged). k p.0) x xs ∙ ap (λ b. cond b (x ∷ take_while (λ (p : Tagged). k p.0) xs) []) h.0
 
-head_any : (o : Option Tagged) (n : ℕ) → list_any (is_number n) (option_to_list o) ≡ true → (x : Item) × (o ≡ Some (n, x))
+-- a number on a head is its number
+pub head_any : (o : Option Tagged) (n : ℕ) → list_any (is_number n) (option_to_list o) ≡ true → (x : Item) × (o ≡ Some (n, x))
 head_any None n h = absurd cc
 head_any (Some p) n h = go (p.0 == n) refl h where
   go : (b : Bool) → (p.0 == n) ≡ b → (b || false) ≡ true → (x : Item) × (Some p ≡ Some (n, x))

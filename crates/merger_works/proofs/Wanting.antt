@@ -3,7 +3,7 @@ use Rattle.std.proofs.Common.{ℕ, zero, suc, ◌+◌, ◌*◌, ◌<◌, ◌≤�
 use Rattle.std.specs.Prelude.{◌&&◌, ◌||◌, not, nat_lt, is_none}
 use Rattle.std.specs.Option.{option_to_list, unwrap_or}
 use Rattle.std.specs.List.{list_all, list_any, AllByRecursion}
-use Rattle.std.proofs.lemmas.Bool.{eqb-true, ltb-true}
+use Rattle.std.proofs.lemmas.Bool.{ltb-true}
 use Rattle.std.proofs.lemmas.List.Folds.{list_all-append}
 use Rattle.spl_value.specs.declared.item.Item.{Item}
 use Rattle.spl_value.specs.declared.item.Item.TheVariants as I
@@ -12,10 +12,10 @@ use Rattle.spl_value.proofs.Lists.{append_last}
 use Rattle.spl_value.specs.Numbered.{Rule, ByTurns, ByNumbers, ByPulses, InOrder, closes, cut, is_last, items_of, known, known_by_number, known_by_pulses, merged, numbers_of, reaches}
 use Rattle.stream_model.specs.Stream.{is_closed, is_empty}
 use Rattle.channel_heads.specs.Held.{Held, MergerHolds, MergerHolds.Gave, IsNext, bound_at, gives_head, head_at, is_done, is_merging, is_waiting, least_of, wants}
-use Rattle.channel_heads.proofs.ByNumber.{Tagged, Gift, is_number, Climbs, climbs-bounds, front, front-cons}
+use Rattle.channel_heads.proofs.ByNumber.{Tagged, Gift, is_number, front, front-cons}
 use Rattle.channel_heads.proofs.Facts.{Facts, PulseFacts, TurnFacts, facts}
 use Rattle.channel_heads.proofs.Leasts.{least_none, least_some, least_there}
-use Rattle.channel_heads.proofs.MergeLawLemmas.{prefix, knows_all, known_absent}
+use Rattle.channel_heads.proofs.MergeLawLemmas.{prefix, head_any, knows_all, knows_pulses, known_absent}
 use Rattle.channel_heads.proofs.Packets.{channel_of_all, in_turn_rises, known_less, last_or, reached_last}
 
 -- ---- whether the stream is closed
@@ -42,11 +42,6 @@ open-cut (x ∷ xs) e = go (closes x) e (open-cut xs)
 
 -- ---- which items are known
 
--- by pulses, what was given is known
-knows_pulses : (w lo high : ℕ) (taken : ℕ → List Packet) (gifts : List Gift) → Climbs lo gifts high → known_by_pulses w taken high ≡ true → AllByRecursion (λ (g : Gift). known_by_pulses w taken g.1.0 ≡ true) gifts
-knows_pulses w lo high taken [] c k = tt
-knows_pulses w lo high taken (g ∷ gifts) c k = (known_less w taken g.1.0 high (climbs-bounds g.1.0 high gifts c.1) k, knows_pulses w g.1.0 high taken gifts c.1 k)
-
 knows : (rule : Rule) (w : ℕ) (h : Held) (taken : ℕ → List Packet) (given : List Item) (f : Facts rule w h taken given) → InOrder rule w taken → AllByRecursion (λ (g : Gift). known rule w taken g.1.0 ≡ true) f.gifts
 knows ByTurns w h taken given f order =
     let t : TurnFacts w taken f.gifts (length given) = f.by_rule in
@@ -63,14 +58,6 @@ all_front k c (g ∷ gifts) h = ap (list_all (λ (p : Tagged). k p.0)) (front-co
     go : (b : Bool) → list_all (λ (p : Tagged). k p.0) (front gifts c) ≡ true → list_all (λ (p : Tagged). k p.0) (cond b (g.1 ∷ front gifts c) (front gifts c)) ≡ true
     go true rest = λ i. h.0 i && rest i
     go false rest = rest
-
-head_of : (o : Option Tagged) (n : ℕ) → list_any (is_number n) (option_to_list o) ≡ true → (x : Item) × (o ≡ Some (n, x))
-head_of None n h = absurd cc
-head_of (Some p) n h = go (p.0 == n) refl h
-  where
-    go : (b : Bool) → (p.0 == n) ≡ b → (b || false) ≡ true → (x : Item) × (Some p ≡ Some (n, x))
-    go true e h = (p.1, ap (λ m. Some (m, p.1)) (eqb-true p.0 n e))
-    go false e h = absurd cc
 
 -- a channel that has reached a number isn't waiting for it
 calm : (w n d : ℕ) (h : Held) (taken : ℕ → List Packet) (given : List Item) (f : Facts ByPulses w h taken given) → InOrder ByPulses w taken → d < w → known_by_pulses w taken n ≡ true → is_waiting h n d ≡ false
@@ -122,7 +109,7 @@ unknown ByTurns w h taken given s order all live c l n x e =
 
     absent : (d : ℕ) → d < w → list_any (is_number (length given)) (f.rest d) ≡ true → ⊥
     absent d l a =
-        let head = head_of (head_at h d) (length given) (ap (list_any (is_number (length given))) (sym (f.live_rest live d l)) ∙ a) in
+        let head = head_any (head_at h d) (length given) (ap (list_any (is_number (length given))) (sym (f.live_rest live d l)) ∙ a) in
         let are : front f.gifts d ++ (length given, head.0) ∷ [] ≡ items_of (taken d) = ap (λ z. front f.gifts d ++ z) (sym (f.live_rest live d l ∙ ap option_to_list head.1)) ∙ f.fronts d l in
         let turn : length given ≡ length (front f.gifts d) * w + d =
         order.turns d (length (front f.gifts d)) (length given, head.0) l
@@ -137,7 +124,7 @@ unknown ByNumbers w h taken given s order all live c l n x e =
 
     absent : (d : ℕ) → d < w → list_any (is_number (length given)) (f.rest d) ≡ true → ⊥
     absent d l a =
-        let head = head_of (head_at h d) (length given) (ap (list_any (is_number (length given))) (sym (f.live_rest live d l)) ∙ a) in
+        let head = head_any (head_at h d) (length given) (ap (list_any (is_number (length given))) (sym (f.live_rest live d l)) ∙ a) in
         not_next ByNumbers w h taken given s order all d (length given) head.0 l head.1 refl
 unknown ByPulses w h taken given s order all live c l n x e = go (known_by_pulses w taken n) refl
   where
