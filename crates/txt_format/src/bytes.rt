@@ -8,7 +8,7 @@ ghost use Rattle.txt_format.specs.steps.Reading.{IsSeparator, past_equals, past_
 fn is_blank(b: u8) -> bool
     ensures { result ≡ blank_byte b }
 {
-    b == b' ' || (b == b'\t' || b == b'\r')
+    b <= b' ' && (b == b' ' || (b == b'\t' || b == b'\r'))
 }
 
 /// Where the blanks at a place end.

@@ -48,6 +48,7 @@ fn add_value(
 }
 
 #[cycle(values)]
+#[inline(never)]
 fn add_list(
     alloc: Global,
     element: &SplType,
@@ -73,6 +74,7 @@ fn add_list(
 // Adds the elements from a place on, and tells where their closing bracket ends. No more are looked for than there
 // are bytes.
 #[cycle(values)]
+#[inline(never)]
 fn add_elements(
     alloc: Global,
     element: &SplType,
@@ -101,6 +103,7 @@ fn add_elements(
 }
 
 #[cycle(values)]
+#[inline(never)]
 fn add_map(
     alloc: Global,
     kind: &SplType,
@@ -125,6 +128,7 @@ fn add_map(
 
 // Puts the pairs from a place on, and tells where their closing bracket ends.
 #[cycle(values)]
+#[inline(never)]
 fn add_pairs(
     alloc: Global,
     kind: &SplType,
@@ -198,6 +202,7 @@ fn put_pair(pairs: &mut Pairs, pair: &mut Values) -> Result<(), NoMemory>
 }
 
 #[cycle(values)]
+#[inline(never)]
 fn add_tuple(
     alloc: Global,
     schema: &[Attribute],

@@ -147,6 +147,7 @@ fn add_value(text: &mut Vec<u8>, value: &Value, kind: &SplType) -> Result<(), No
 }
 
 #[cycle(values)]
+#[inline(never)]
 fn add_elements(text: &mut Vec<u8>, values: &[Value], element: &SplType) -> Result<(), NoMemory>
     ensures { OnOk result (text.new.items ≡ text.old.items ++ bracketed 91 93 (map (value_text element.now) values.now)) }
 {
@@ -162,6 +163,7 @@ fn add_elements(text: &mut Vec<u8>, values: &[Value], element: &SplType) -> Resu
 }
 
 #[cycle(values)]
+#[inline(never)]
 fn add_pairs(
     text: &mut Vec<u8>,
     pairs: &Pairs,
