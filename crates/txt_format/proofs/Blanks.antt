@@ -39,7 +39,7 @@ unfoldable pub begins : List ℕ → Bool
 begins [] = true
 begins (b ∷ bs) = not (is_blank b)
 
-not_true : (b : Bool) → not b ≡ true → b ≡ false
+pub not_true : (b : Bool) → not b ≡ true → b ≡ false
 not_true true h = absurd (cc)
 not_true false h = refl
 

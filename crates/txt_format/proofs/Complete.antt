@@ -21,7 +21,7 @@ use Rattle.txt_format.specs.Escapes.Means.{nothing, plain, escape}
 use Rattle.txt_format.specs.TxtSpelling.{Inside, SpellAttributes, SpellElements, SpellPairs, Spells, SpellsValue, are_blanks, begins_blank, is_blank}
 use Rattle.txt_format.specs.steps.Bytes.{is_part, past_blanks, past_byte, past_mark, past_name}
 use Rattle.txt_format.specs.steps.Reading.{as_other, meant, past_separator, push, put, read_fields, read_inside, read_int, read_items, read_list, read_map, read_opened, read_pair, read_text, read_tuple, read_value}
-use Rattle.txt_format.proofs.Blanks.{begins, behind_none, behind_piece, behind_some, byte_here, ends, ends_behind, enough, joined, mark_here, name_here, past_all, past_to, stop_begins, stop_colon, stop_comma, stop_curly, stop_square, stops}
+use Rattle.txt_format.proofs.Blanks.{begins, behind_none, behind_piece, behind_some, byte_here, ends, ends_behind, enough, joined, mark_here, name_here, not_true, past_all, past_to, stop_begins, stop_colon, stop_comma, stop_curly, stop_square, stops}
 use Rattle.txt_format.proofs.ReadingLaws.{read_of_bool, read_of_int, read_of_list, read_of_map, read_of_text, read_of_tuple}
 use Rattle.txt_format.proofs.Steps.{items_close, items_more}
 
@@ -64,10 +64,6 @@ of_kind k (Some y) z e = (y, refl)
 
 spelled_parts : (k : IntKind) (bs : List ℕ) (z : ℤ) → integer_of k bs ≡ Some z → list_all is_part bs ≡ true
 spelled_parts k bs z e = let was = of_kind k (integer bs) z e in integer_parts bs was.0 was.1
-
-not_true : (b : Bool) → not b ≡ true → b ≡ false
-not_true true h = absurd (cc)
-not_true false h = refl
 
 parts_front : (bs rest : List ℕ) → list_all is_part bs ≡ true → ends rest ≡ true → prefix_len is_part (bs ++ rest) ≡ length bs
 unfolding ends

@@ -1,5 +1,6 @@
 pub mod Blanks
 pub mod Complete
+pub mod OneLine
 pub mod Pieces
 pub mod ReadingLaws
 pub mod Rows

@@ -21,8 +21,8 @@ use Rattle.txt_format.specs.steps.Reading.{as_other, begun_row, ended_row, read_
 use Rattle.txt_format.proofs.Blanks.{front, past_all, stop_nothing}
 use Rattle.txt_format.proofs.Complete.{spelled_read}
 use Rattle.txt_format.proofs.ReadingLaws.{read_of_tuple}
-use Rattle.txt_format.proofs.Sound.{Known, all_known, then_other, then_some, tuple_taken}
-use Rattle.txt_format.proofs.Steps.{begun_some}
+use Rattle.txt_format.proofs.Sound.{Known, all_known, then_some, tuple_taken}
+use Rattle.txt_format.proofs.Steps.{begun_some, then_other}
 
 same_values : (vs ws : List Value) → V.Tuple vs ≡ V.Tuple ws → vs ≡ ws
 same_values vs ws e = let same : ◌≡◌ {A = Value-F Value} (O.Tuple vs) (O.Tuple ws) = sym (V.outs-Tuple vs) ∙ ap out-Value e ∙ V.outs-Tuple ws in cc

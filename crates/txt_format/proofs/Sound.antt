@@ -20,16 +20,10 @@ use Rattle.txt_format.specs.steps.Bytes.{is_part, past_blanks, past_byte, past_m
 use Rattle.txt_format.specs.steps.Reading.{as_other, meant, past_equals, past_separator, push, put, read_fields, read_inside, read_int, read_items, read_opened, read_pair, read_text, read_truth, read_value}
 use Rattle.txt_format.proofs.Blanks.{behind_none, behind_piece, behind_some, byte_was, begins, front, joined, mark_fresh, mark_was, name_was, past_fresh}
 use Rattle.txt_format.proofs.Complete.{pushed}
+use Rattle.txt_format.proofs.Steps.{then_other}
 use Rattle.txt_format.proofs.ReadingLaws.{read_of_bool, read_of_int, read_of_list, read_of_map, read_of_text, read_of_tuple}
 
 -- ---- answers
-
--- what was read before, where it was taken as something else
-pub then_other : {A B : Type 0} (f : A → B) (read : Option (A × List ℕ)) (y : B) (rest : List ℕ) → as_other f read ≡ Some (y, rest) → (x : A) × (read ≡ Some (x, rest)) × (f x ≡ y)
-then_other f None y rest e = absurd (cc)
-then_other {A} {B} f (Some r) y rest e =
-    let both : ◌≡◌ {A = B × List ℕ} (f r.0, r.1) (y, rest) = cc in
-    (r.0, (λ i. Some (r.0, (both i).1)), (λ i. (both i).0))
 
 -- what was there before, where something comes of it
 pub then_some : {A B : Type 0} (f : A → Option B) (o : Option A) (y : B) → option_and_then f o ≡ Some y → (x : A) × (o ≡ Some x) × (f x ≡ Some y)

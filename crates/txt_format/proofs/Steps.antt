@@ -107,9 +107,9 @@ text_behind vs bytes behind e =
 -- ---- elements
 
 -- what was read, where it was added to something
-inverse : {A B : Type 0} (f : A → B) (read : Option (A × List ℕ)) (y : B) (rest : List ℕ) → as_other f read ≡ Some (y, rest) → (x : A) × (read ≡ Some (x, rest)) × (f x ≡ y)
-inverse f None y rest e = absurd (cc)
-inverse {A} {B} f (Some r) y rest e =
+pub then_other : {A B : Type 0} (f : A → B) (read : Option (A × List ℕ)) (y : B) (rest : List ℕ) → as_other f read ≡ Some (y, rest) → (x : A) × (read ≡ Some (x, rest)) × (f x ≡ y)
+then_other f None y rest e = absurd (cc)
+then_other {A} {B} f (Some r) y rest e =
     let both : ◌≡◌ {A = B × List ℕ} (f r.0, r.1) (y, rest) = cc in
     (r.0, (λ i. Some (r.0, (both i).1)), (λ i. (both i).0))
 
@@ -127,7 +127,7 @@ module _ {A S : Type 0} (f : List ℕ → Option (A × List ℕ)) (add : S → A
   pub added_more : as_other (add s) (f bytes) ≡ Some (s2, rest) → past_separator close (past_blanks rest) ≡ Some (true, r)
       → read_items f add close (size - (count + 1)) s2 r ≡ read_items f add close (size - count) s bytes
   added_more e h =
-      let was = inverse (add s) (f bytes) s2 rest e in
+      let was = then_other (add s) (f bytes) s2 rest e in
       sym (ap (λ n. read_items f add close n s bytes) (left_fuel size count left)
       ∙ items_more f add close (size - (count + 1)) s bytes was.0 rest was.1 r h
       ∙ ap (λ z. read_items f add close (size - (count + 1)) z r) was.2)
@@ -135,7 +135,7 @@ module _ {A S : Type 0} (f : List ℕ → Option (A × List ℕ)) (add : S → A
   pub added_close : as_other (add s) (f bytes) ≡ Some (s2, rest) → past_separator close (past_blanks rest) ≡ Some (false, r)
       → read_items f add close (size - count) s bytes ≡ Some (s2, r)
   added_close e h =
-      let was = inverse (add s) (f bytes) s2 rest e in
+      let was = then_other (add s) (f bytes) s2 rest e in
       ap (λ n. read_items f add close n s bytes) (left_fuel size count left)
       ∙ items_close f add close (size - (count + 1)) s bytes was.0 rest was.1 r h
       ∙ ap (λ z. Some (z, r)) was.2
@@ -146,7 +146,7 @@ module _ {A S : Type 0} (f : List ℕ → Option (A × List ℕ)) (add : S → A
 pub pair_read : (read : Option ((Value × Value) × List ℕ)) (pair new : List Value) (rest : List ℕ) → pair ≡ [] → as_other (push_pair pair) read ≡ Some (new, rest)
     → (p : Value × Value) × (read ≡ Some (p, rest)) × (new ≡ push_pair [] p)
 pair_read read pair new rest none e =
-    let was = inverse (push_pair pair) read new rest e in
+    let was = then_other (push_pair pair) read new rest e in
     (was.0, was.1, sym was.2 ∙ ap (λ vs. push_pair vs was.0) none)
 
 pub map_read : (kind k t : SplType) (bytes : List ℕ) → kind ≡ S.Map k t → read_map (read_pair_of kind) bytes ≡ read_value kind bytes

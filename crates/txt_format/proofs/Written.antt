@@ -41,17 +41,17 @@ use Rattle.txt_format.proofs.TextLaws.{text_of_bool, text_of_int, text_of_list, 
 
 -- ---- integers
 
-record IsDigit (c : ℕ) : Type 0 where
-  low : 48 ≤ c
-  high : c ≤ 57
+pub record IsDigit (c : ℕ) : Type 0 where
+  pub low : 48 ≤ c
+  pub high : c ≤ 57
 
-first_digit : (c : ℕ) (cs : List ℕ) → AllDigits 10 (c ∷ cs) → IsDigit c
+pub first_digit : (c : ℕ) (cs : List ℕ) → AllDigits 10 (c ∷ cs) → IsDigit c
 first_digit c cs h = let r = digit_at (c ∷ cs) 0 h (omega arith) in record { low = r.0; high = r.1 }
 
 digit_so : (c : ℕ) → IsDigit c → is_digit c ≡ true
 digit_so c d = let low = d.low in let high = d.high in grind arith
 
-digits_so : (cs : List ℕ) → AllDigits 10 cs → list_all is_digit cs ≡ true
+pub digits_so : (cs : List ℕ) → AllDigits 10 cs → list_all is_digit cs ≡ true
 digits_so [] h = refl
 digits_so (c ∷ cs) h = both_true (digit_so c (first_digit c cs h)) (digits_so cs h.1)
 
@@ -149,13 +149,13 @@ put_sorted ps h = put_behind [] ps h
 names_at : (t : SplType) (x : SplType-F SplType) → out-SplType t ≡ x → names_are_words t ≡ level_named (map-SplType SplType Bool names_are_words x)
 names_at t x p = fold_out-SplType Bool level_named t ∙ ap (λ z. level_named (map-SplType SplType Bool names_are_words z)) p
 
-names_list : (t : SplType) → names_are_words (T.List t) ≡ names_are_words t
+pub names_list : (t : SplType) → names_are_words (T.List t) ≡ names_are_words t
 names_list t = names_at (T.List t) (S.List t) (T.outs-List t)
 
-names_map : (k t : SplType) → names_are_words (T.Map k t) ≡ (names_are_words k && names_are_words t)
+pub names_map : (k t : SplType) → names_are_words (T.Map k t) ≡ (names_are_words k && names_are_words t)
 names_map k t = names_at (T.Map k t) (S.Map k t) (T.outs-Map k t)
 
-names_tuple : (schema : List (Named SplType)) → names_are_words (T.Tuple schema) ≡ schema_has_words schema
+pub names_tuple : (schema : List (Named SplType)) → names_are_words (T.Tuple schema) ≡ schema_has_words schema
 names_tuple schema = names_at (T.Tuple schema) (S.Tuple schema) (T.outs-Tuple schema) ∙ each schema
   where
     each : (schema : List (Named SplType)) → list_all {X = Named Bool} (λ a. is_word a.name && a.kind) (map {A = Named SplType} (λ a. record { name = a.name; kind = names_are_words a.kind }) schema) ≡ schema_has_words schema

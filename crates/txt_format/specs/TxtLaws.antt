@@ -12,6 +12,9 @@ use Rattle.spl_value.specs.Values.{tuple_fits}
 use Rattle.txt_format.specs.TxtSpelling.{txt_spells}
 use Rattle.txt_format.specs.TxtText.{txt_text}
 
+abbrev pub has_no_feed : List ℕ → Bool
+has_no_feed = list_all (λ b. not (b == 10))
+
 -- a letter or `_`
 abbrev pub is_letter : ℕ → Bool
 is_letter b = (not (nat_lt b 65) && nat_lt b 91) || ((not (nat_lt b 97) && nat_lt b 123) || (b == 95))
@@ -41,6 +44,10 @@ schema_has_words schema = list_all (λ a. is_word a.name && names_are_words a.ki
 -- the text of a tuple that fits spells it
 abbrev pub WrittenLaw : Type 0
 WrittenLaw = (schema : List (Named SplType)) (vs : List Value) → IsTrue (schema_has_words schema) → IsTrue (tuple_fits schema vs) → txt_spells schema (txt_text schema vs) vs
+
+-- the text of a tuple that fits has no line feed
+abbrev pub OneLineLaw : Type 0
+OneLineLaw = (schema : List (Named SplType)) (vs : List Value) → IsTrue (schema_has_words schema) → IsTrue (tuple_fits schema vs) → IsTrue (has_no_feed (txt_text schema vs))
 
 -- a line spells one tuple at most
 abbrev pub OneTupleLaw : Type 0

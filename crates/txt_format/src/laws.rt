@@ -1,9 +1,14 @@
 //! What is written is read back, as no other tuple.
-ghost use Rattle.txt_format.specs.TxtLaws.{WrittenLaw, OneTupleLaw};
+ghost use Rattle.txt_format.specs.TxtLaws.{WrittenLaw, OneLineLaw, OneTupleLaw};
 
 /// The text of a tuple that fits its schema spells that tuple, where the attributes' names are words.
 pub fn written_law()
     ensures { WrittenLaw }
+{}
+
+/// The text of a tuple that fits its schema is one line, where the attributes' names are words.
+pub fn one_line_law()
+    ensures { OneLineLaw }
 {}
 
 /// A line spells one tuple of a schema at most.
