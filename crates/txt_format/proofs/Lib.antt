@@ -1,5 +1,6 @@
 pub mod Blanks
 pub mod Complete
+pub mod Fitting
 pub mod OneLine
 pub mod Pieces
 pub mod ReadingLaws

@@ -24,7 +24,7 @@ use Rattle.txt_format.proofs.ReadingLaws.{read_of_pairs}
 
 -- ---- integers
 
-in_kind_holds : (k : IntKind) (m : Option ℤ) (n : ℤ) → in_kind k m ≡ Some n → IsTrue (kind_holds k n)
+pub in_kind_holds : (k : IntKind) (m : Option ℤ) (n : ℤ) → in_kind k m ≡ Some n → IsTrue (kind_holds k n)
 in_kind_holds k None n e = absurd (cc)
 in_kind_holds k (Some m) n e = elim (cases_Bool (kind_holds k m)) [
   | inl holds ↦ let h : Some m ≡ Some n = sym (rw holds refl) ∙ e in let same : m ≡ n = cc h in ap (kind_holds k) (sym same) ∙ holds

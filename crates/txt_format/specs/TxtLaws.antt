@@ -49,6 +49,10 @@ WrittenLaw = (schema : List (Named SplType)) (vs : List Value) → IsTrue (schem
 abbrev pub OneLineLaw : Type 0
 OneLineLaw = (schema : List (Named SplType)) (vs : List Value) → IsTrue (schema_has_words schema) → IsTrue (tuple_fits schema vs) → IsTrue (has_no_feed (txt_text schema vs))
 
+-- what a line spells is a tuple of the schema
+abbrev pub FittingLaw : Type 0
+FittingLaw = (schema : List (Named SplType)) (line : List ℕ) (vs : List Value) → txt_spells schema line vs → IsTrue (tuple_fits schema vs)
+
 -- a line spells one tuple at most
 abbrev pub OneTupleLaw : Type 0
 OneTupleLaw = (schema : List (Named SplType)) (line : List ℕ) (vs ws : List Value) → txt_spells schema line vs → txt_spells schema line ws → vs ≡ ws

@@ -8,6 +8,6 @@ mod reading;
 mod texts;
 mod writing;
 
-pub use laws::{one_line_law, one_tuple_law, written_law};
+pub use laws::{fitting_law, one_line_law, one_tuple_law, written_law};
 pub use reading::{TxtRow, read_row};
 pub use writing::{add_row, write_row};

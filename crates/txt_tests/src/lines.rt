@@ -8,7 +8,7 @@ use test_texts::spelled::spelled_out;
 use test_texts::text::Text;
 use test_texts::values::add_value;
 use test_texts::words::bytes;
-use txt_format::{TxtRow, one_line_law, one_tuple_law, read_row, write_row, written_law};
+use txt_format::{TxtRow, fitting_law, one_line_law, one_tuple_law, read_row, write_row, written_law};
 
 // A schema and a line: what the line gives.
 struct Lines;
@@ -153,6 +153,7 @@ fn lines_spell_these_tuples(rt: HostRuntime) -> Result<(), Untrue> {
 fn tuples_are_written_so(rt: HostRuntime) -> Result<(), Untrue> {
     written_law();
     one_line_law();
+    fitting_law();
     one_tuple_law();
     expect(rt.alloc(), &Copies, &[COPIES])
 }
