@@ -50,7 +50,7 @@ mixed s t q = by (nat_lt t s) refl
 turned : (a b : ℤ) → a +ℤ b ≡ b +ℤ a
 turned a b = omega (arith, ints)
 
-times : (s t : ℤ) (q : ℕ) → (s +ℤ t) *ℤ pos q ≡ (s *ℤ pos q) +ℤ (t *ℤ pos q)
+pub times : (s t : ℤ) (q : ℕ) → (s +ℤ t) *ℤ pos q ≡ (s *ℤ pos q) +ℤ (t *ℤ pos q)
 times (pos s) (pos t) q = grind (arith, ints)
 times (pos s) (negsuc t) q = mixed s t q
 times (negsuc s) (pos t) q = ap (λ z. z *ℤ pos q) (turned (negsuc s) (pos t)) ∙ mixed t s q ∙ turned (pos t *ℤ pos q) (negsuc s *ℤ pos q)

@@ -1,3 +1,4 @@
 pub mod Columns
+pub mod Extremes
 pub mod Seen
 pub mod steps

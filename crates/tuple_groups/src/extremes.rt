@@ -6,14 +6,14 @@ ghost use Rattle.spl_value.specs.declared.value.Value.{Value as V};
 ghost use Rattle.stream_model.specs.Aggregates.{last as last_of, least_by};
 ghost use Rattle.stream_model.specs.parts.Aggregates.{first as first_of, first_of_two};
 ghost use Rattle.tuple_groups.specs.Columns.{column};
-ghost use Rattle.tuple_groups.specs.steps.Extremes.{before};
+ghost use Rattle.tuple_groups.specs.Extremes.{before};
 ghost use Rattle.tuple_groups.specs.Seen.{seen};
 
 use spl_value::{Value, Values, order};
 use std::cmp::Ordering;
 
 /// Whether the first value comes before the second one: the greater one, or the lesser one.
-fn is_before(greatest: bool, v: &Value, w: &Value) -> bool
+pub fn is_before(greatest: bool, v: &Value, w: &Value) -> bool
     ensures { result ≡ before greatest v.now w.now }
 {
     let order = if greatest { order(w, v) } else { order(v, w) };

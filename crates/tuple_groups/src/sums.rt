@@ -13,7 +13,7 @@ ghost use Rattle.tuple_groups.specs.Seen.{seen};
 use spl_value::{IntKind, Value, Values, wrap};
 
 /// The integer of a value, and 0 where it is none.
-fn integer_of(value: &Value) -> i128
+pub fn integer_of(value: &Value) -> i128
     ensures { result ≡ integer_in (out-Value value.now) }
 {
     match value {

@@ -3,3 +3,5 @@ pub mod Parts
 pub mod Windows
 pub mod Marks
 pub mod Places
+pub mod Summing
+pub mod SumsAt

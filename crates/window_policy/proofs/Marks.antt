@@ -40,7 +40,7 @@ sorted-taken : (es : List (List Value × Part)) → is_sorted key_cmp (map taken
 sorted-taken [] = refl
 sorted-taken (e ∷ es) = λ i. below-taken e.0 es i && sorted-taken es i
 
-none_came : (q : List Value) (h : List WindowEvent) → tuples_with q h ≡ [] → has_come q h ≡ false
+pub none_came : (q : List Value) (h : List WindowEvent) → tuples_with q h ≡ [] → has_come q h ≡ false
 none_came q h none = come_is q h ∙ ap (λ (ts : List (List Value)). not (is_empty ts)) none
 
 held_exactly : (q : List Value) (h : List WindowEvent) (o : Option Part) → At W.TumblingPunct o (tuples_with q h)

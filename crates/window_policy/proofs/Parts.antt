@@ -20,7 +20,7 @@ own_tuples [] = refl
 own_tuples (t ∷ ts) = ap (λ us. t ∷ us) (own_tuples ts)
 
 module _ (t : List Value) (ts : List (List Value)) where
-  count_step : (n : ℕ) → 0 < n
+  pub count_step : (n : ℕ) → 0 < n
       → (held (W.TumblingCount n) (t ∷ ts)
       ≡ cond (length (held (W.TumblingCount n) ts ++ t ∷ []) == n) [] (held (W.TumblingCount n) ts ++ t ∷ []))
       × (fires_after (W.TumblingCount n) t ts
@@ -32,7 +32,7 @@ module _ (t : List Value) (ts : List (List Value)) where
       ≡ flush_if (length (held (W.TumblingCount n) us ++ t ∷ []) == n) (held (W.TumblingCount n) us ++ t ∷ [])))
       (own_tuples ts) (tumbling_count_insert n [] t (map (Insert []) ts) some)
 
-  tumbling_step : (a : ℕ) (limit : ℤ)
+  pub tumbling_step : (a : ℕ) (limit : ℤ)
       → (held (W.TumblingDelta a limit) (t ∷ ts)
       ≡ cond (exceeds_first a limit t (held (W.TumblingDelta a limit) ts)) (t ∷ []) (held (W.TumblingDelta a limit) ts ++ t ∷ []))
       × (fires_after (W.TumblingDelta a limit) t ts
@@ -44,7 +44,7 @@ module _ (t : List Value) (ts : List (List Value)) where
       ≡ flush_if (exceeds_first a limit t (held (W.TumblingDelta a limit) us)) (held (W.TumblingDelta a limit) us)))
       (own_tuples ts) (tumbling_delta_insert a limit [] t (map (Insert []) ts))
 
-  shift_step : (n : ℕ) (every : Option ℕ)
+  pub shift_step : (n : ℕ) (every : Option ℕ)
       → held (W.SlidingCount n every) (t ∷ ts)
       ≡ drop (length (held (W.SlidingCount n every) ts) + 1 - n) (held (W.SlidingCount n every) ts ++ t ∷ [])
   shift_step n every =
@@ -52,7 +52,7 @@ module _ (t : List Value) (ts : List (List Value)) where
       ≡ drop (length (held (W.SlidingCount n every) us) + 1 - n) (held (W.SlidingCount n every) us ++ t ∷ []))
       (own_tuples ts) (sliding_count_insert n every [] t (map (Insert []) ts)).0
 
-  shift_length : (n : ℕ) (every : Option ℕ) → length (last_of n ts) ≡ min n (length ts)
+  pub shift_length : (n : ℕ) (every : Option ℕ) → length (last_of n ts) ≡ min n (length ts)
   shift_length n every =
       subst (λ (us : List (List Value)). length (last_of n us) ≡ min n (length us)) (own_tuples ts) (sliding_count_law n every [] (map (Insert []) ts)).1
 

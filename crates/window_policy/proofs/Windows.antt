@@ -51,23 +51,24 @@ came_where_relevant (W.SlidingDelta a limit every) k h e = came_where k h e
 
 -- ---- an insertion
 
-at_key : (rule : WindowRule) (b : Bool) (o m : Option Part) (t : List Value) (ts : List (List Value)) → (b ≡ true → At rule m (t ∷ ts)) → At rule o ts
-    → At rule (cond b m o) (cond b (t ∷ ts) ts)
-at_key rule true o m t ts new old = new refl
-at_key rule false o m t ts new old = old
+module _ {P : Type 0} (rule : WindowRule) (KeptAt : Option P → List (List Value) → Type 0) where
+  at_key : (b : Bool) (o m : Option P) (t : List Value) (ts : List (List Value)) → (b ≡ true → KeptAt m (t ∷ ts)) → KeptAt o ts
+      → KeptAt (cond b m o) (cond b (t ∷ ts) ts)
+  at_key true o m t ts new old = new refl
+  at_key false o m t ts new old = old
 
--- what is kept of each key is right after an insertion that changes what is kept of one
-pub inserted : {S : Type 0} (rule : WindowRule) (m n : HashMap (List Value) Part S) (key t : List Value) (part : Part) (h : List WindowEvent)
-    → ((q : List Value) → get equal_key n q ≡ cond (equal_key key q) (Some part) (get equal_key m q))
-    → ((k : List Value) → At rule (get equal_key m k) (tuples_with k (relevant rule h))) → Keeps rule part (t ∷ tuples_with key (relevant rule h))
-    → (k : List Value) → At rule (get equal_key n k) (tuples_with k (relevant rule (Insert key t ∷ h)))
-inserted rule m n key t part h updates stood keeps k =
-    subst (λ g. At rule (get equal_key n k) (tuples_with k g)) (counts_too rule key t h)
-    (subst (λ o. At rule o (tuples_with k (Insert key t ∷ relevant rule h)))
-    (sym (updates k ∙ ap (λ b. cond b (Some part) (get equal_key m k)) (key_turned key k)))
-    (at_key rule (same_key k key) (get equal_key m k) (Some part) t (tuples_with k (relevant rule h))
-    (λ e. subst (λ q. At rule (Some part) (t ∷ tuples_with q (relevant rule h))) (sym (same_key-equal k key e)) (keeps, omega arith))
-    (stood k)))
+  -- what is kept of each key is right after an insertion that changes what is kept of one
+  pub inserted : {S : Type 0} (m n : HashMap (List Value) P S) (key t : List Value) (part : P) (h : List WindowEvent)
+      → ((q : List Value) → get equal_key n q ≡ cond (equal_key key q) (Some part) (get equal_key m q))
+      → ((k : List Value) → KeptAt (get equal_key m k) (tuples_with k (relevant rule h))) → KeptAt (Some part) (t ∷ tuples_with key (relevant rule h))
+      → (k : List Value) → KeptAt (get equal_key n k) (tuples_with k (relevant rule (Insert key t ∷ h)))
+  inserted m n key t part h updates stood keeps k =
+      subst (λ g. KeptAt (get equal_key n k) (tuples_with k g)) (counts_too rule key t h)
+      (subst (λ o. KeptAt o (tuples_with k (Insert key t ∷ relevant rule h)))
+      (sym (updates k ∙ ap (λ b. cond b (Some part) (get equal_key m k)) (key_turned key k)))
+      (at_key (same_key k key) (get equal_key m k) (Some part) t (tuples_with k (relevant rule h))
+      (λ e. subst (λ q. KeptAt (Some part) (t ∷ tuples_with q (relevant rule h))) (sym (same_key-equal k key e)) keeps)
+      (stood k)))
 
 -- the tuple is the newest one of its key
 pub newest : (rule : WindowRule) (key t : List Value) (h : List WindowEvent) → held rule (t ∷ tuples_with key (relevant rule h)) ≡ content rule key (Insert key t ∷ h)

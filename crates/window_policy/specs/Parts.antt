@@ -1,5 +1,5 @@
 -- What is kept of each key.
-use Rattle.std.specs.Prelude.{ℕ, Bool, true, cond, ◌<◌, ◌%◌, List, [], ◌∷◌, ◌≡◌, length, slice_get, Option, Some, None}
+use Rattle.std.specs.Prelude.{ℕ, Bool, true, false, cond, ◌<◌, ◌%◌, ◌==◌, List, [], ◌∷◌, ◌≡◌, length, slice_get, Option, Some, None}
 use Rattle.indexmap.specs.IndexMap.{IndexMap, get, values}
 use Rattle.spl_value.specs.declared.value.Value.{Value}
 use Rattle.language_model.specs.declared.checked.WindowRule.{WindowRule}
@@ -13,6 +13,11 @@ use Rattle.key_maps.specs.MapKeys.{equal_key}
 abbrev pub CountsTo : Option ℕ → ℕ → ℕ → Type 0
 CountsTo None since n = Unit {0}
 CountsTo (Some every) since n = (0 < every) × (since ≡ n % every)
+
+-- whether the last of n tuples is one after each `every` of them: without it, none is
+abbrev pub turns_at : Option ℕ → ℕ → Bool
+turns_at None n = false
+turns_at (Some every) n = (n % every) == 0
 
 abbrev pub CountsBy : WindowRule → ℕ → ℕ → Type 0
 CountsBy (W.TumblingCount count) since n = 0 < count

@@ -3,7 +3,7 @@ ghost use Rattle.std.specs.Prelude.{◌≡◌, ◌∷◌, [], ◌++◌, ◌==◌
 ghost use Rattle.stream_model.specs.Windows.{trigger_if};
 ghost use Rattle.stream_model.specs.parts.Windows.{flush_if};
 ghost use Rattle.window_policy.specs.Answers.{firing_of};
-ghost use Rattle.window_policy.specs.Parts.{CountsTo};
+ghost use Rattle.window_policy.specs.Parts.{CountsTo, turns_at};
 
 use crate::fired::Fired;
 use crate::ring::{push, take_all};
@@ -30,21 +30,32 @@ pub fn fill(
     }
 }
 
+/// Counts one more tuple. Whether it is one after each `every` of them: without `every`, none is.
+pub fn is_turn(since: &mut u64, every: Option<u64>) -> bool
+    ensures { (n : _) → CountsTo every since.old n → CountsTo every since.new (suc n) × (result ≡ turns_at every (suc n)) }
+{
+    match every {
+        None => false,
+        Some(every) => {
+            if every <= *since || every - *since == 1 {
+                *since = 0;
+                true
+            } else {
+                *since += 1;
+                false
+            }
+        }
+    }
+}
+
 /// Counts one more tuple for a trigger, which fires once every `every` tuples. A window without one never fires.
 pub fn count_tuple(since: &mut u64, every: Option<u64>) -> Fired
     ensures { (n stays : _) → CountsTo every since.old n
         → CountsTo every since.new (suc n) × (firing_of result stays ≡ trigger_if every (suc n) stays) }
 {
-    match every {
-        None => Fired::No,
-        Some(every) => {
-            if every <= *since || every - *since == 1 {
-                *since = 0;
-                Fired::Stays
-            } else {
-                *since += 1;
-                Fired::No
-            }
-        }
+    if is_turn(since, every) {
+        Fired::Stays
+    } else {
+        Fired::No
     }
 }

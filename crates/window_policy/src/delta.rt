@@ -15,7 +15,7 @@ use spl_value::{NoMemory, Value, Values};
 use std::alloc::Global;
 
 /// The integer of an attribute, and 0 where there is none.
-fn integer_at(attr: u32, tuple: &Values) -> i128
+pub fn integer_at(attr: u32, tuple: &Values) -> i128
     ensures { result ≡ integer_of_tuple attr tuple.now }
 {
     match tuple.get(attr as usize) {
@@ -25,7 +25,7 @@ fn integer_at(attr: u32, tuple: &Values) -> i128
 }
 
 /// Whether one integer exceeds another by more than the limit. The difference doesn't wrap.
-fn exceeds(limit: i128, new: i128, old: i128) -> bool
+pub fn exceeds(limit: i128, new: i128, old: i128) -> bool
     ensures { result ≡ int_lt limit (new -ℤ old) }
 {
     match new.checked_sub(old) {

@@ -33,6 +33,19 @@ pub fn push(ring: &mut HeapCircularBuffer<Values>, tuple: Values) -> Result<(), 
     Ok(())
 }
 
+/// Adds a tuple after fewer than `most` others.
+pub fn append(
+    ring: &mut HeapCircularBuffer<Values>,
+    most: usize,
+    tuple: Values,
+) -> Result<(), NoMemory>
+    ensures { IfOk result (λ _. length ring.old.items < most → ring.new.items ≡ ring.old.items ++ tuple ∷ []) }
+{
+    make_room(ring, most)?;
+    let _ = ring.push_back(tuple);
+    Ok(())
+}
+
 /// Adds a tuple after the others, of which at most `keep` are kept: where there are as many, the oldest is dropped.
 pub fn shift(
     ring: &mut HeapCircularBuffer<Values>,
@@ -48,9 +61,7 @@ pub fn shift(
     if ring.len() as u64 >= keep {
         let _ = ring.pop_front();
     }
-    make_room(ring, keep as usize)?;
-    let _ = ring.push_back(tuple);
-    Ok(())
+    append(ring, keep as usize, tuple)
 }
 
 /// Takes all tuples out, the oldest first. The room of the ring stays.

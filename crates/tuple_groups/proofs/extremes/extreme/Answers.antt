@@ -1,7 +1,7 @@
 use Rattle.std.proofs.Common.{drop, ap, ◌∙◌, arith}
 use Rattle.stream_model.specs.Aggregates.{least_by}
 use Rattle.tuple_groups.specs.Columns.{column}
-use Rattle.tuple_groups.specs.steps.Extremes.{before}
+use Rattle.tuple_groups.specs.Extremes.{before}
 use Rattle.tuple_groups.specs.Seen.{seen}
 use Rattle.tuple_groups.proofs.ColumnSteps.{column_before}
 use Rattle.tuple_groups.proofs.extremes.extreme.Goals as goal

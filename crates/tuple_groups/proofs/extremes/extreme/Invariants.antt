@@ -2,7 +2,7 @@ use Rattle.std.proofs.Common.{◌≡◌, ◌≤◌, length, drop}
 use Rattle.std.specs.Option.{option_copied}
 use Rattle.stream_model.specs.Aggregates.{least_by}
 use Rattle.tuple_groups.specs.Columns.{column}
-use Rattle.tuple_groups.specs.steps.Extremes.{before}
+use Rattle.tuple_groups.specs.Extremes.{before}
 use Rattle.tuple_groups.specs.Seen.{seen}
 use Rattle.tuple_groups.proofs.extremes.extreme.Given as goal
 

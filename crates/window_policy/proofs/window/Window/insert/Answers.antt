@@ -1,4 +1,4 @@
-use Rattle.std.proofs.Common.{◌≡◌, ◌∷◌, [], List, Some, cond, slice_get, sym, ap, subst, ◌∙◌}
+use Rattle.std.proofs.Common.{◌≡◌, ◌∷◌, [], List, Some, cond, slice_get, sym, ap, subst, ◌∙◌, arith}
 use Rattle.indexmap.specs.IndexMap.{get, insert_entry, values, with_value_at}
 use Rattle.indexmap.proofs.CallerLemmas.{insert_entry-new}
 use Rattle.indexmap.specs.IndexSet.{contains}
@@ -7,7 +7,7 @@ use Rattle.stream_model.specs.Windows.{tuples_with, held, fires_after, flushes_a
 use Rattle.stream_model.specs.parts.Windows.{relevant}
 use Rattle.window_policy.specs.Answers.{IsAllowed, firing_of}
 use Rattle.key_maps.specs.MapKeys.{equal_key}
-use Rattle.window_policy.specs.Parts.{Keeps}
+use Rattle.window_policy.specs.Parts.{At, Keeps}
 use Rattle.window_policy.specs.steps.Parts.{Notes}
 use Rattle.window_policy.proofs.Parts.{Added}
 use Rattle.window_policy.proofs.Places.{kept_there, nothing, place_of_new, place_stays, updates_there}
@@ -37,7 +37,7 @@ returns-in-Some-clause-stands c rule h stood =
     record {
       by = stood.by;
       allowed = stood.allowed;
-      at = inserted rule parts new key c.args.tuple c.add.new.self h updates stood.at next.0;
+      at = inserted rule (At rule) parts new key c.args.tuple c.add.new.self h updates stood.at (next.0, omega arith);
       known = known_stays (flushes_at_markers rule) (contains equal_key c.args.self.now.known) (get equal_key parts) (get equal_key new) c.add.new.self key c.args.tuple h
           (came_where_relevant rule key h kept.1) updates stood.known;
       newest = place_stays parts key place (sym c.in-Some.ensures.index) c.add.new.self;
@@ -73,7 +73,7 @@ returns-clause-stands c rule h stood =
     record {
       by = stood.by;
       allowed = stood.allowed;
-      at = inserted rule parts c.insert.new.self key c.args.tuple c.in_ok-part.part h updates stood.at keeps;
+      at = inserted rule (At rule) parts c.insert.new.self key c.args.tuple c.in_ok-part.part h updates stood.at (keeps, omega arith);
       known = known_more (flushes_at_markers rule) (contains equal_key c.args.self.now.known) (contains equal_key c.begin.new.known)
           (get equal_key parts) (get equal_key c.insert.new.self) c.in_ok-part.part key c.args.tuple h notes updates stood.known;
       newest = ap (slice_get (values c.insert.new.self)) c.len-self.ensures.len

@@ -1,0 +1,4 @@
+pub mod Folds
+pub mod Tallies
+pub mod Moving
+pub mod steps
