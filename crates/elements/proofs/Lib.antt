@@ -1,0 +1,5 @@
+pub mod Receiving
+pub mod Working
+pub mod Taking
+pub mod Putting
+pub mod Asking

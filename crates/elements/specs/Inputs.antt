@@ -1,0 +1,31 @@
+-- What an element notes of the packets that it takes from its inputs.
+use Rattle.std.specs.Prelude.{◌≡◌, ◌==◌, ℕ, Bool, true, false, List, [], ◌∷◌, ◌||◌, ◌&&◌, length, slice_get, Some, if◌then◌else◌}
+use Rattle.spl_value.specs.declared.packet.Packet.{Packet}
+use Rattle.spl_value.specs.declared.packet.Packet.TheVariants as P
+use Rattle.spl_value.specs.Numbered.{closes}
+use Rattle.elements.specs.declared.input.Input.{Input}
+
+abbrev pub noted : Input → Packet → Input
+noted i (P.Item number item) = record { low = number; closed = i.closed || closes item; ended = i.ended }
+noted i (P.Pulse number) = record { low = number; closed = i.closed; ended = i.ended }
+noted i P.Close = record { low = i.low; closed = i.closed; ended = true }
+noted i P.Cut = record { low = i.low; closed = i.closed; ended = true }
+
+-- after these packets
+abbrev pub noted_all : Input → List Packet → Input
+noted_all i [] = i
+noted_all i (p ∷ ps) = noted_all (noted i p) ps
+
+abbrev pub new_input : Input
+new_input = record { low = 0; closed = false; ended = false }
+
+-- a packet is taken from one of them
+pub record IsNoted (at : ℕ) (packet : Packet) (old new : List Input) : Type 0 where
+  pub count : length new ≡ length old
+  pub each : (i : ℕ) (y : Input) → slice_get new i ≡ Some y
+      → (x : Input) × (slice_get old i ≡ Some x) × (y ≡ (if at == i then noted x packet else x))
+
+-- `Close` or `Cut` was taken from each of them
+abbrev pub all_ended : List Input → Bool
+all_ended [] = true
+all_ended (i ∷ inputs) = i.ended && all_ended inputs

@@ -1,0 +1,15 @@
+//! An element of a network: what it takes and what it puts.
+#![tactic(auto)]
+
+mod calls;
+mod element;
+mod input;
+mod next;
+mod output;
+mod work;
+
+pub use element::Element;
+pub use input::Input;
+pub use next::Next;
+pub use output::Output;
+pub use work::Work;
