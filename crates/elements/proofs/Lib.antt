@@ -3,3 +3,4 @@ pub mod Working
 pub mod Taking
 pub mod Putting
 pub mod Asking
+pub mod Beginning

@@ -2,3 +2,4 @@ pub mod Inputs
 pub mod Outputs
 pub mod Works
 pub mod Standing
+pub mod New

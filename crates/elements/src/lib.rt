@@ -4,12 +4,15 @@
 mod calls;
 mod element;
 mod input;
+mod new;
 mod next;
 mod output;
+mod part;
 mod work;
 
 pub use element::Element;
 pub use input::Input;
 pub use next::Next;
 pub use output::Output;
+pub use part::ElementPart;
 pub use work::Work;
