@@ -1,6 +1,9 @@
 -- What an element wants, and what it does next.
 use Rattle.std.proofs.Common.{ℕ, ◌<◌, ◌&&◌, ◌||◌, not, Bool, true, false, List, [], ◌∷◌, ◌≡◌, ◌⊎◌, inl, inr, refl, sym, ap, ◌∙◌, subst, None, Some, slice_get, suc, zero}
 use Rattle.std.proofs.lemmas.Option.{slice_get-get_or, slice_get_within}
+use Rattle.spl_value.specs.declared.packet.Packet.{Packet}
+use Rattle.spl_value.specs.declared.types.Named.{Named}
+use Rattle.spl_value.specs.declared.types.SplType.{SplType}
 use Rattle.spl_value.specs.declared.value.Value.{Value}
 use Rattle.stream_model.specs.Operators.{Operator}
 use Rattle.stream_model.specs.Stream.{Event, any_closes, is_closed}
@@ -11,9 +14,10 @@ use Rattle.network_model.specs.Receipts.{popped, read_in}
 use Rattle.network_model.specs.States.{At, all_taken}
 use Rattle.elements.specs.declared.element.Element.{Element}
 use Rattle.elements.specs.declared.input.Input.{Input}
-use Rattle.elements.specs.Inputs.{all_ended, new_input}
-use Rattle.elements.specs.Standing.{IsAt, StillReads}
+use Rattle.elements.specs.Inputs.{all_ended, follows, new_input, noted_all}
+use Rattle.elements.specs.Standing.{ComesNext, IsAt, StillReads}
 use Rattle.elements.specs.Works.{HasInput, wants_more}
+use Rattle.elements.proofs.Propers.{proper_last, proper_next}
 use Rattle.elements.proofs.Receiving.{ended-is}
 use Rattle.elements.proofs.Taking.{taken_kept}
 use Rattle.elements.proofs.Working.{works_want}
@@ -105,3 +109,16 @@ module _ {R : Type 0} (spec : R → Operator) (stands : R → List Event → Typ
     where
       within : (i : ℕ) (x : Input) → slice_get e.inputs i ≡ Some x → i < inputs part
       within i x got = subst (λ n. i < n) at.spent.input_count (slice_get_within e.inputs i x got)
+
+  -- ---- what may come next
+
+  pub may_come : (e : Element R) (i : ℕ) (p : Packet) (r : Bool) → ((x : Input) (s : List (Named SplType)) → slice_get e.inputs i ≡ Some x → slice_get e.ins i ≡ Some s → r ≡ follows s x p)
+      → (part : Part) (a : At) (poured : List (List Value)) → IsAt spec stands part e a poured → i < inputs part → a.outbox ≡ []
+      → (not (has_last (popped i (all_taken a))) && (a.cut || wants_at part a i)) ≡ true → (s : List (Named SplType)) → slice_get e.ins i ≡ Some s
+      → (r ≡ true → ComesNext s part a i p) × (ComesNext s part a i p → r ≡ true)
+  may_come e i p r is part a poured at within idle wanted s got =
+      let there = slice_get-get_or e.inputs i new_input (subst (λ n. i < n) (sym at.spent.input_count) within) in
+      let same : r ≡ follows s (noted_all new_input (popped i (all_taken a))) p = is _ s there got ∙ ap (λ z. follows s z p) (at.spent.taken i _ there) in (
+        λ yes. record { idle = idle; wanted = wanted; proper = proper_next s (popped i (all_taken a)) p (at.spent.proper i s got) (sym same ∙ yes) },
+        λ next. same ∙ proper_last s (popped i (all_taken a)) p next.proper,
+      )

@@ -151,14 +151,16 @@ module _ {R : Type 0} (spec : R → Operator) (stands : R → List Event → Typ
   work_begins (Merger region outs) (W.Replica chain) counts fans t new are few room none = absurd new
   work_begins (Merger region outs) (W.Splitter s) counts fans t new are few room none = absurd new
 
-  pub begins : (e : Element R) (made : ElementPart R) (part : Part) → IsNew spec stands part made → e.work ≡ made.work → e.inputs ≡ replicate (length made.ins) new_input → e.outputs ≡ replicate (outputs_in made.fans) new_output
+  pub begins : (e : Element R) (made : ElementPart R) (part : Part) → IsNew spec stands part made → e.work ≡ made.work → e.ins ≡ made.ins → e.inputs ≡ replicate (length made.ins) new_input → e.outputs ≡ replicate (outputs_in made.fans) new_output
       → e.fans ≡ fans_from 0 made.fans → e.reads ≡ is_some made.source → e.cut ≡ false → waits e.outbox ≡ [] → sink_waits e.tuples ≡ [] → IsKept e.tuples → room_of e.tuples ≡ places_for made.work
       → IsAt spec stands part e new_element []
-  begins e made part new same ins outs fans reads cut outbox tuples kept room = record {
+  begins e made part new same schemas ins outs fans reads cut outbox tuples kept room = record {
     spent = record {
       cut = cut;
       input_count = ap length ins ∙ length-replicate (length made.ins) new_input ∙ new.input_count;
       taken = λ i x got. each_same (length made.ins) new_input i x (ap (λ xs. slice_get xs i) (sym ins) ∙ got);
+      schema_count = ap length schemas ∙ new.input_count;
+      proper = λ i s got. record { fit = refl; ends = refl; stops = refl; falls = tt };
       output_count = ap length outs ∙ length-replicate (outputs_in made.fans) new_output ∙ new.output_count;
       put = λ o x got. ap (λ (y : Output). y.ended) (each_same (outputs_in made.fans) new_output o x (ap (λ xs. slice_get xs o) (sym outs) ∙ got));
       few = new.few;

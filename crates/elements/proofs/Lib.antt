@@ -4,3 +4,4 @@ pub mod Taking
 pub mod Putting
 pub mod Asking
 pub mod Beginning
+pub mod Propers

@@ -110,7 +110,7 @@ tells_all outs pushed is i x got = is i x got ∙ ap (λ n. has_last (on_output 
 module _ {R : Type 0} (spec : R → Operator) (stands : R → List Event → Type 0) where
   -- the element behind a packet that was put
   abbrev pub handed_out : Element R → Outbox → List Output → Bool → Element R
-  handed_out e outbox outs was = record { alloc = e.alloc; work = e.work; inputs = e.inputs; reads = e.reads; fans = e.fans; outbox = outbox; outputs = outs; was_ended = was; tuples = e.tuples; cut = e.cut }
+  handed_out e outbox outs was = record { alloc = e.alloc; work = e.work; ins = e.ins; inputs = e.inputs; reads = e.reads; fans = e.fans; outbox = outbox; outputs = outs; was_ended = was; tuples = e.tuples; cut = e.cut }
 
   put_spent : (e : Element R) (outbox : Outbox) (outs : List Output) (was : Bool) (s : Outgoing) → IsPut s.output s.packet e.outputs outs → (part : Part) (a : At) (poured : List (List Value)) → IsSpent part e a poured
       → (a.cut ≡ true → drop 1 a.outbox ≡ cuts_from 0 (outputs part) (a.pushed ++ s ∷ [])) → IsSpent part (handed_out e outbox outs was) (puts a s) poured
@@ -118,6 +118,8 @@ module _ {R : Type 0} (spec : R → Operator) (stands : R → List Event → Typ
     cut = spent.cut;
     input_count = spent.input_count;
     taken = spent.taken;
+    schema_count = spent.schema_count;
+    proper = spent.proper;
     output_count = noted.count ∙ spent.output_count;
     put = λ o y got. (
         let x = noted.each o y got in
@@ -204,6 +206,8 @@ module _ {R : Type 0} (spec : R → Operator) (stands : R → List Event → Typ
       cut = at.spent.cut;
       input_count = at.spent.input_count;
       taken = at.spent.taken;
+      schema_count = at.spent.schema_count;
+      proper = at.spent.proper;
       output_count = set.count ∙ at.spent.output_count;
       put = λ o y got. (
           let x = set.each o y got in

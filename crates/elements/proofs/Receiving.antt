@@ -1,10 +1,13 @@
 -- One receipt more, and what an element notes of it.
-use Rattle.std.proofs.Common.{ℕ, ◌==◌, ◌||◌, Bool, true, false, cond, List, [], ◌∷◌, ◌++◌, ◌≡◌, drop, length, refl, sym, ap, ◌∙◌, append-nil, append_assoc, Some, slice_get}
+use Rattle.std.proofs.Common.{ℕ, ◌==◌, ◌||◌, Bool, true, false, cond, List, [], ◌∷◌, ◌++◌, ◌≡◌, drop, length, refl, sym, ap, ◌∙◌, subst, append-nil, append_assoc, Some, slice_get}
+use Rattle.std.proofs.lemmas.Bool.{eqb-true}
 use Rattle.std.proofs.Math.Seq.{drop-append_seam}
 use Rattle.spl_value.specs.declared.item.Item.{Item}
 use Rattle.spl_value.specs.declared.packet.Packet.{Packet}
 use Rattle.spl_value.specs.declared.packet.Packet.TheVariants as P
-use Rattle.spl_value.specs.Numbered.{closes}
+use Rattle.spl_value.specs.declared.types.Named.{Named}
+use Rattle.spl_value.specs.declared.types.SplType.{SplType}
+use Rattle.spl_value.specs.Numbered.{IsProper, closes}
 use Rattle.stream_model.specs.Stream.{any_closes, is_closed, is_empty}
 use Rattle.network_model.specs.Packets.{has_last}
 use Rattle.network_model.specs.Receipts.{Receipt, Popped, WasRead, popped, read_in}
@@ -81,3 +84,17 @@ behind xs ys zs e = ap (drop (length xs)) (sym e) ∙ drop-append_seam xs ys
 
 pub front-more : {A : Type 0} (xs ys zs more all : List A) → xs ++ ys ≡ zs → all ≡ zs ++ more → xs ++ (ys ++ more) ≡ all
 front-more xs ys zs more all p e = sym (append_assoc xs ys more) ∙ ap (λ z. z ++ more) p ∙ sym e
+
+-- ---- proper packets
+
+-- one packet more on an input
+pub proper_more : (schemas : List (List (Named SplType))) (T U : List Receipt) (i : ℕ) (p : Packet) → U ≡ T ++ Popped i p ∷ []
+    → ((j : ℕ) (s : List (Named SplType)) → slice_get schemas j ≡ Some s → IsProper s (popped j T))
+    → ((s : List (Named SplType)) → slice_get schemas i ≡ Some s → IsProper s (popped i T ++ p ∷ []))
+    → (j : ℕ) (s : List (Named SplType)) → slice_get schemas j ≡ Some s → IsProper s (popped j U)
+proper_more schemas T U i p u was next j s got =
+    subst (IsProper s) (sym (ap (popped j) u ∙ popped-append j T (Popped i p ∷ []))) (go (i == j) refl)
+  where
+    go : (b : Bool) → (i == j) ≡ b → IsProper s (popped j T ++ cond b (p ∷ []) [])
+    go true q = let same : i ≡ j = eqb-true i j q in subst (λ k. IsProper s (popped k T ++ p ∷ [])) same (next s (ap (slice_get schemas) same ∙ got))
+    go false q = subst (IsProper s) (sym (append-nil (popped j T))) (was j s got)

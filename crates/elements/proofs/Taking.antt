@@ -6,8 +6,10 @@ use Rattle.std.proofs.lemmas.Bool.{cond-true, cond-false}
 use Rattle.spl_value.specs.declared.item.Item.{Item}
 use Rattle.spl_value.specs.declared.packet.Packet.{Packet}
 use Rattle.spl_value.specs.declared.packet.Packet.TheVariants as P
+use Rattle.spl_value.specs.declared.types.Named.{Named}
+use Rattle.spl_value.specs.declared.types.SplType.{SplType}
 use Rattle.spl_value.specs.declared.value.Value.{Value}
-use Rattle.spl_value.specs.Numbered.{closes, is_cut}
+use Rattle.spl_value.specs.Numbered.{IsProper, closes, is_cut}
 use Rattle.stream_model.specs.Operators.{Operator}
 use Rattle.stream_model.specs.Stream.{Event, any_closes, is_closed}
 use Rattle.network_model.specs.Adds.{adds}
@@ -26,7 +28,7 @@ use Rattle.elements.specs.declared.work.Work.{Work}
 use Rattle.elements.specs.Inputs.{IsNoted, noted_all, new_input}
 use Rattle.elements.specs.Standing.{IsAt, IsSpent, MayRead, MayTake, Poured}
 use Rattle.elements.specs.Works.{HasWorked, MayWork, WorkAt}
-use Rattle.elements.proofs.Receiving.{behind, closes-last, front-more, inputs_more, not-popped, not-read}
+use Rattle.elements.proofs.Receiving.{behind, closes-last, front-more, inputs_more, not-popped, not-read, proper_more}
 use Rattle.elements.proofs.Working.{works_still}
 
 pub err_then : {A E : Type 0} (Q : E → Type 0) (r : Result A E) → ((e : E) → Q e) → IfErr r Q
@@ -47,17 +49,18 @@ not_cutting P.Cut h = absurd (h refl)
 module _ {R : Type 0} (spec : R → Operator) (stands : R → List Event → Type 0) where
   -- the element after something of it has changed
   abbrev pub changed : Element R → Work R → List Input → Bool → Outbox → Tuples → Bool → Element R
-  changed e work ins reads outbox tuples cut = record { alloc = e.alloc; work = work; inputs = ins; reads = reads; fans = e.fans; outbox = outbox; outputs = e.outputs; was_ended = e.was_ended; tuples = tuples; cut = cut }
+  changed e work ins reads outbox tuples cut = record { alloc = e.alloc; work = work; ins = e.ins; inputs = ins; reads = reads; fans = e.fans; outbox = outbox; outputs = e.outputs; was_ended = e.was_ended; tuples = tuples; cut = cut }
 
   -- ---- taking
 
   -- it owes for what it takes
   keeps_one : (e : Element R) (work : Work R) (ins : List Input) (reads : Bool) (outbox : Outbox) (tuples : Tuples) (r : Receipt) (part : Part) (a : At) (poured : List (List Value)) → a.cut ≡ false
       → IsAt spec stands part e a poured → length ins ≡ inputs part → ((i : ℕ) (x : Input) → slice_get ins i ≡ Some x → x ≡ noted_all new_input (popped i (a.kept ++ r ∷ [])))
+      → ((i : ℕ) (s : List (Named SplType)) → slice_get e.ins i ≡ Some s → IsProper s (popped i (a.kept ++ r ∷ [])))
       → reads ≡ (is_sourced part && not (any_closes (read_in (a.kept ++ r ∷ [])))) → any_closes (read_in (a.kept ++ r ∷ [])) ≡ is_closed (read_in (a.kept ++ r ∷ []))
       → IsKept tuples → HasWorked spec stands part a.kept r work e.fans e.tuples tuples e.outbox outbox
       → IsAt spec stands part (changed e work ins reads outbox tuples e.cut) (keeps part a r) poured
-  keeps_one e work ins reads outbox tuples r part a poured uncut at count noted read closed kept worked =
+  keeps_one e work ins reads outbox tuples r part a poured uncut at count noted propers read closed kept worked =
       let all : pours part (a.kept ++ r ∷ []) ≡ pours part a.kept ++ pours_more part a.kept r = pours_law part a.kept r in
       let front = at.spent.front in
       let longer : poured ++ (front.0 ++ pours_more part a.kept r) ≡ pours part (a.kept ++ r ∷ []) = front-more poured front.0 (pours part a.kept) (pours_more part a.kept r) (pours part (a.kept ++ r ∷ [])) front.1 all in
@@ -67,6 +70,8 @@ module _ {R : Type 0} (spec : R → Operator) (stands : R → List Event → Typ
           cut = at.spent.cut;
           input_count = count;
           taken = λ i x got. noted i x got ∙ ap (λ T. noted_all new_input (popped i T)) (sym (append-nil (a.kept ++ r ∷ [])) ∙ ap (λ ds. (a.kept ++ r ∷ []) ++ ds) (sym (at.none_dropped uncut)));
+          schema_count = at.spent.schema_count;
+          proper = λ i x got. subst (λ T. IsProper x (popped i T)) (sym (append-nil (a.kept ++ r ∷ [])) ∙ ap (λ ds. (a.kept ++ r ∷ []) ++ ds) (sym (at.none_dropped uncut))) (propers i x got);
           output_count = at.spent.output_count;
           put = at.spent.put;
           few = at.spent.few;
@@ -89,12 +94,15 @@ module _ {R : Type 0} (spec : R → Operator) (stands : R → List Event → Typ
   taken_kept a e poured part uncut at = ap (λ ds. a.kept ++ ds) (at.none_dropped uncut) ∙ append-nil a.kept
 
   -- it drops what it takes
-  pub spent_more : (e : Element R) (work : Work R) (ins : List Input) (outbox : Outbox) (tuples : Tuples) (i : ℕ) (p : Packet) (part : Part) (a : At) (poured : List (List Value)) → IsNoted i p e.inputs ins → IsSpent part e a poured
+  pub spent_more : (e : Element R) (work : Work R) (ins : List Input) (outbox : Outbox) (tuples : Tuples) (i : ℕ) (p : Packet) (part : Part) (a : At) (poured : List (List Value)) → IsNoted i p e.inputs ins
+      → ((s : List (Named SplType)) → slice_get e.ins i ≡ Some s → IsProper s (popped i (all_taken a) ++ p ∷ [])) → IsSpent part e a poured
       → IsSpent part (changed e work ins e.reads outbox tuples e.cut) (drops a (Popped i p)) poured
-  spent_more e work ins outbox tuples i p part a poured noted spent = record {
+  spent_more e work ins outbox tuples i p part a poured noted next spent = record {
     cut = spent.cut;
     input_count = noted.count ∙ spent.input_count;
     taken = inputs_more i p e.inputs ins (all_taken a) (a.kept ++ (a.dropped ++ Popped i p ∷ [])) noted (sym (append_assoc a.kept a.dropped (Popped i p ∷ []))) spent.taken;
+    schema_count = spent.schema_count;
+    proper = proper_more e.ins (all_taken a) (a.kept ++ (a.dropped ++ Popped i p ∷ [])) i p (sym (append_assoc a.kept a.dropped (Popped i p ∷ []))) spent.proper next;
     output_count = spent.output_count;
     put = spent.put;
     few = spent.few;
@@ -104,12 +112,13 @@ module _ {R : Type 0} (spec : R → Operator) (stands : R → List Event → Typ
   }
 
   pub take_cut : (e : Element R) (ins : List Input) (i : ℕ) (p : Packet) → IsNoted i p e.inputs ins → e.cut ≡ true
-      → (part : Part) (a : At) (poured : List (List Value)) → IsAt spec stands part e a poured → IsAt spec stands part (changed e e.work ins e.reads e.outbox e.tuples e.cut) (takes part a (Popped i p)) poured
-  take_cut e ins i p noted cut part a poured at =
+      → (part : Part) (a : At) (poured : List (List Value)) → IsAt spec stands part e a poured → MayTake e.ins part a i p
+      → IsAt spec stands part (changed e e.work ins e.reads e.outbox e.tuples e.cut) (takes part a (Popped i p)) poured
+  take_cut e ins i p noted cut part a poured at may =
       let is : a.cut ≡ true = sym at.spent.cut ∙ cut in
       subst (λ (b : At). IsAt spec stands part (changed e e.work ins e.reads e.outbox e.tuples e.cut) b poured) (sym (cond-true a.cut (drops a (Popped i p)) _ is))
       (record {
-        spent = spent_more e e.work ins e.outbox e.tuples i p part a poured noted at.spent;
+        spent = spent_more e e.work ins e.outbox e.tuples i p part a poured noted may.proper at.spent;
         outbox = at.outbox;
         tuples = at.tuples;
         kept = at.kept;
@@ -121,15 +130,15 @@ module _ {R : Type 0} (spec : R → Operator) (stands : R → List Event → Typ
   -- `Cut`
   pub take_cutting : (e next : Element R) (ins : List Input) (i : ℕ) (p : Packet) → p ≡ P.Cut → IsNoted i p e.inputs ins → e.cut ≡ false
       → ((part : Part) (b : At) (poured : List (List Value)) → IsSpent part (changed e e.work ins e.reads e.outbox e.tuples e.cut) b poured → IsAt spec stands part next (cut_off part b) poured)
-      → (part : Part) (a : At) (poured : List (List Value)) → IsAt spec stands part e a poured → IsAt spec stands part next (takes part a (Popped i p)) poured
-  take_cutting e next ins i p is noted cut cuts part a poured at =
+      → (part : Part) (a : At) (poured : List (List Value)) → IsAt spec stands part e a poured → MayTake e.ins part a i p → IsAt spec stands part next (takes part a (Popped i p)) poured
+  take_cutting e next ins i p is noted cut cuts part a poured at may =
       subst (λ (b : At). IsAt spec stands part next b poured)
       (sym (cond-false a.cut (drops a (Popped i p)) _ (sym at.spent.cut ∙ cut) ∙ cond-true (is_cut p) (cut_off part (drops a (Popped i p))) (keeps part a (Popped i p)) (ap is_cut is)))
-      (cuts part (drops a (Popped i p)) poured (spent_more e e.work ins e.outbox e.tuples i p part a poured noted at.spent))
+      (cuts part (drops a (Popped i p)) poured (spent_more e e.work ins e.outbox e.tuples i p part a poured noted may.proper at.spent))
 
   pub take_more : (e : Element R) (work : Work R) (ins : List Input) (outbox : Outbox) (tuples : Tuples) (i : ℕ) (p : Packet) → is_cut p ≡ false → IsNoted i p e.inputs ins → e.cut ≡ false → IsKept tuples
       → ((part : Part) (T : List Receipt) → WorkAt spec stands part T e.work e.fans e.tuples → MayWork part T (Popped i p) → HasWorked spec stands part T (Popped i p) work e.fans e.tuples tuples e.outbox outbox)
-      → (part : Part) (a : At) (poured : List (List Value)) → IsAt spec stands part e a poured → MayTake part a i p
+      → (part : Part) (a : At) (poured : List (List Value)) → IsAt spec stands part e a poured → MayTake e.ins part a i p
       → IsAt spec stands part (changed e work ins e.reads outbox tuples e.cut) (takes part a (Popped i p)) poured
   take_more e work ins outbox tuples i p uncutting noted cut kept run part a poured at may =
       let uncut : a.cut ≡ false = sym at.spent.cut ∙ cut in
@@ -138,7 +147,8 @@ module _ {R : Type 0} (spec : R → Operator) (stands : R → List Event → Typ
       (sym (cond-false a.cut (drops a (Popped i p)) _ uncut ∙ cond-false (is_cut p) (cut_off part (drops a (Popped i p))) (keeps part a (Popped i p)) uncutting))
       (keeps_one e work ins e.reads outbox tuples (Popped i p) part a poured uncut at (noted.count ∙ at.spent.input_count)
       (inputs_more i p e.inputs ins (all_taken a) (a.kept ++ Popped i p ∷ []) noted (ap (λ T. T ++ Popped i p ∷ []) (sym (taken_kept a e poured part uncut at))) at.spent.taken)
-      (at.reads uncut ∙ ap (λ xs. is_sourced part && not (any_closes xs)) (sym same)) (ap any_closes same ∙ at.spent.closed ∙ ap is_closed (sym same)) kept (run part a.kept (at.work uncut) (may uncut)))
+      (proper_more e.ins (all_taken a) (a.kept ++ Popped i p ∷ []) i p (ap (λ T. T ++ Popped i p ∷ []) (sym (taken_kept a e poured part uncut at))) at.spent.proper may.proper)
+      (at.reads uncut ∙ ap (λ xs. is_sourced part && not (any_closes xs)) (sym same)) (ap any_closes same ∙ at.spent.closed ∙ ap is_closed (sym same)) kept (run part a.kept (at.work uncut) (may.works uncut)))
 
   -- ---- reading
 
@@ -153,6 +163,7 @@ module _ {R : Type 0} (spec : R → Operator) (stands : R → List Event → Typ
       subst (λ (b : At). IsAt spec stands part (changed e work e.inputs reads outbox tuples e.cut) b poured) (sym (cond-false a.cut (drops a (WasRead x)) (keeps part a (WasRead x)) uncut))
       (keeps_one e work e.inputs reads outbox tuples (WasRead x) part a poured uncut at at.spent.input_count
       (λ i y got. at.spent.taken i y got ∙ ap (λ T. noted_all new_input (popped i T)) (taken_kept a e poured part uncut at) ∙ ap (noted_all new_input) (sym (not-popped i a.kept x)))
+      (λ i s got. subst (IsProper s) (ap (popped i) (taken_kept a e poured part uncut at) ∙ sym (not-popped i a.kept x)) (at.spent.proper i s got))
       (on ∙ ap not (sym last.0 ∙ ap any_closes (sym all)) ∙ ap (λ b. b && not (any_closes (read_in (a.kept ++ WasRead x ∷ [])))) (sym may.still.sourced))
       (ap any_closes all ∙ last.0 ∙ sym last.1 ∙ ap is_closed (sym all)) kept (run part a.kept (at.work uncut) may.works))
 
@@ -166,6 +177,8 @@ module _ {R : Type 0} (spec : R → Operator) (stands : R → List Event → Typ
     cut = at.spent.cut;
     input_count = at.spent.input_count;
     taken = λ i y got. at.spent.taken i y got ∙ ap (noted_all new_input) (sym (not-popped i (all_taken a) x) ∙ ap (popped i) (append_assoc a.kept a.dropped (WasRead x ∷ [])));
+    schema_count = at.spent.schema_count;
+    proper = λ i s got. subst (IsProper s) (sym (not-popped i (all_taken a) x) ∙ ap (popped i) (append_assoc a.kept a.dropped (WasRead x ∷ []))) (at.spent.proper i s got);
     output_count = at.spent.output_count;
     put = at.spent.put;
     few = at.spent.few;
@@ -197,6 +210,8 @@ module _ {R : Type 0} (spec : R → Operator) (stands : R → List Event → Typ
                 cut = at.spent.cut;
                 input_count = at.spent.input_count;
                 taken = at.spent.taken;
+                schema_count = at.spent.schema_count;
+                proper = at.spent.proper;
                 output_count = at.spent.output_count;
                 put = at.spent.put;
                 few = at.spent.few;
@@ -223,6 +238,8 @@ module _ {R : Type 0} (spec : R → Operator) (stands : R → List Event → Typ
         cut = at.spent.cut;
         input_count = at.spent.input_count;
         taken = at.spent.taken;
+        schema_count = at.spent.schema_count;
+        proper = at.spent.proper;
         output_count = at.spent.output_count;
         put = at.spent.put;
         few = at.spent.few;
@@ -265,6 +282,8 @@ module _ {R : Type 0} (spec : R → Operator) (stands : R → List Event → Typ
           cut = sym q;
           input_count = spent.input_count;
           taken = spent.taken;
+          schema_count = spent.schema_count;
+          proper = spent.proper;
           output_count = spent.output_count;
           put = spent.put;
           few = spent.few;
@@ -285,6 +304,8 @@ module _ {R : Type 0} (spec : R → Operator) (stands : R → List Event → Typ
               cut = refl;
               input_count = spent.input_count;
               taken = spent.taken;
+              schema_count = spent.schema_count;
+              proper = spent.proper;
               output_count = spent.output_count;
               put = spent.put;
               few = spent.few;

@@ -1,8 +1,10 @@
 -- What an element notes of the packets that it takes from its inputs.
-use Rattle.std.specs.Prelude.{◌≡◌, ◌==◌, ℕ, Bool, true, false, List, [], ◌∷◌, ◌||◌, ◌&&◌, length, slice_get, Some, if◌then◌else◌}
+use Rattle.std.specs.Prelude.{◌≡◌, ◌==◌, ℕ, Bool, true, false, List, [], ◌∷◌, ◌||◌, ◌&&◌, not, nat_le, length, slice_get, Some, if◌then◌else◌}
 use Rattle.spl_value.specs.declared.packet.Packet.{Packet}
 use Rattle.spl_value.specs.declared.packet.Packet.TheVariants as P
-use Rattle.spl_value.specs.Numbered.{closes}
+use Rattle.spl_value.specs.declared.types.Named.{Named}
+use Rattle.spl_value.specs.declared.types.SplType.{SplType}
+use Rattle.spl_value.specs.Numbered.{closes, item_fits}
 use Rattle.elements.specs.declared.input.Input.{Input}
 
 abbrev pub noted : Input → Packet → Input
@@ -18,6 +20,14 @@ noted_all i (p ∷ ps) = noted_all (noted i p) ps
 
 abbrev pub new_input : Input
 new_input = record { low = 0; closed = false; ended = false }
+
+-- of an input with these attributes, a packet is proper behind those that were taken
+abbrev pub follows : List (Named SplType) → Input → Packet → Bool
+follows schema i (P.Item number item) =
+    not i.ended && (nat_le i.low number && (not i.closed && item_fits schema item))
+follows schema i (P.Pulse number) = not i.ended && nat_le i.low number
+follows schema i P.Close = not i.ended
+follows schema i P.Cut = not i.ended
 
 -- a packet is taken from one of them
 pub record IsNoted (at : ℕ) (packet : Packet) (old new : List Input) : Type 0 where

@@ -1,13 +1,16 @@
 -- For which state an element stands.
-use Rattle.std.specs.Prelude.{◌≡◌, ◌<◌, ◌^◌, ℕ, ◌&&◌, not, true, false, List, [], ◌∷◌, length, slice_get, Some}
+use Rattle.std.specs.Prelude.{◌≡◌, ◌<◌, ◌^◌, ℕ, ◌&&◌, ◌||◌, not, true, false, List, [], ◌∷◌, ◌++◌, length, slice_get, Some}
 use Rattle.spl_value.specs.declared.item.Item.{Item}
 use Rattle.spl_value.specs.declared.packet.Packet.{Packet}
 use Rattle.spl_value.specs.declared.value.Value.{Value}
+use Rattle.spl_value.specs.declared.types.Named.{Named}
+use Rattle.spl_value.specs.declared.types.SplType.{SplType}
+use Rattle.spl_value.specs.Numbered.{IsProper}
 use Rattle.stream_model.specs.Operators.{Operator}
 use Rattle.stream_model.specs.Sending.{on_output}
 use Rattle.stream_model.specs.Stream.{Event, IsPrefix, any_closes, is_closed}
 use Rattle.stream_model.specs.declared.outgoing.Outgoing.{Outgoing}
-use Rattle.network_model.specs.Legal.{IsDone}
+use Rattle.network_model.specs.Legal.{IsDone, wants_at}
 use Rattle.network_model.specs.Networks.{Part, inputs, outputs, is_sourced}
 use Rattle.network_model.specs.Packets.{has_last}
 use Rattle.network_model.specs.Receipts.{Popped, WasRead, popped, read_in}
@@ -29,6 +32,9 @@ pub record IsSpent {R : Type 0} (part : Part) (e : Element R) (a : At) (poured :
   pub cut : e.cut ≡ a.cut
   pub input_count : length e.inputs ≡ inputs part
   pub taken : (i : ℕ) (x : Input) → slice_get e.inputs i ≡ Some x → x ≡ noted_all new_input (popped i (all_taken a))
+  pub schema_count : length e.ins ≡ inputs part
+  pub proper : (i : ℕ) (schema : List (Named SplType)) → slice_get e.ins i ≡ Some schema
+      → IsProper schema (popped i (all_taken a))
   pub output_count : length e.outputs ≡ outputs part
   pub put : (o : ℕ) (x : Output) → slice_get e.outputs o ≡ Some x → x.ended ≡ has_last (on_output o a.pushed)
   pub few : outputs part < 2 ^ 32
@@ -60,9 +66,21 @@ pub record MayRead (part : Part) (a : At) (item : Item) : Type 0 where
   pub still : StillReads part a
   pub works : MayWork part a.kept (WasRead item)
 
--- a packet may be taken from an input: any one by an element that is cut
-abbrev pub MayTake : Part → At → ℕ → Packet → Type 0
-MayTake part a input packet = a.cut ≡ false → MayWork part a.kept (Popped input packet)
+-- the attributes at each input
+abbrev pub schemas_of : {R : Type 0} → Element R → List (List (Named SplType))
+schemas_of e = e.ins
+
+-- a packet may be taken from an input: any one by an element that is cut, where it is proper behind those before it
+pub record MayTake (schemas : List (List (Named SplType))) (part : Part) (a : At) (input : ℕ) (packet : Packet) : Type 0 where
+  pub proper : (schema : List (Named SplType)) → slice_get schemas input ≡ Some schema
+      → IsProper schema (popped input (all_taken a) ++ packet ∷ [])
+  pub works : a.cut ≡ false → MayWork part a.kept (Popped input packet)
+
+-- a packet may come next on an input: nothing is to be put, the input is wanted, and the packet is proper there
+pub record ComesNext (schema : List (Named SplType)) (part : Part) (a : At) (input : ℕ) (packet : Packet) : Type 0 where
+  pub idle : a.outbox ≡ []
+  pub wanted : (not (has_last (popped input (all_taken a))) && (a.cut || wants_at part a input)) ≡ true
+  pub proper : IsProper schema (popped input (all_taken a) ++ packet ∷ [])
 
 -- what it does next
 abbrev pub IsNext : Part → At → Next → Type 0

@@ -1,7 +1,9 @@
 //! The calls of an element.
-ghost use Rattle.std.specs.Prelude.{◌≡◌, ◌<◌, ◌∷◌, ◌++◌, ◌&&◌, ◌||◌, [], not, true, false, IfOk, IfErr, List, MatchOption};
+ghost use Rattle.std.specs.Prelude.{◌≡◌, ◌<◌, ◌∷◌, ◌++◌, ◌&&◌, ◌||◌, [], not, true, false, IfOk, IfErr, IsTrue, ◌↔◌, List, MatchOption, Some, slice_get};
 ghost use Rattle.spl_value.specs.declared.item.Item.TheVariants as I;
 ghost use Rattle.spl_value.specs.declared.value.Value.{Value};
+ghost use Rattle.spl_value.specs.declared.types.Named.{Named};
+ghost use Rattle.spl_value.specs.declared.types.SplType.{SplType};
 ghost use Rattle.spl_value.specs.Numbered.{closes as closes_as};
 ghost use Rattle.stream_model.specs.declared.outgoing.Outgoing.{Outgoing as OutgoingSpec};
 ghost use Rattle.stream_model.specs.Sending.{outgoing};
@@ -10,7 +12,9 @@ ghost use Rattle.network_model.specs.Networks.{Part, inputs};
 ghost use Rattle.network_model.specs.Packets.{has_last};
 ghost use Rattle.network_model.specs.Receipts.{Popped, WasRead, popped};
 ghost use Rattle.network_model.specs.States.{At, all_taken, cut_off, drops, puts, takes, waiting};
-ghost use Rattle.elements.specs.Standing.{IsAt, IsNext, IsSpent, MayRead, MayTake, Poured, WasPut};
+ghost use Rattle.elements.specs.declared.input.Input.{Input as InputSpec};
+ghost use Rattle.elements.specs.Inputs.{follows};
+ghost use Rattle.elements.specs.Standing.{ComesNext, IsAt, IsNext, IsSpent, MayRead, MayTake, Poured, WasPut, schemas_of};
 
 use crate::element::Element;
 use crate::input::{all_ended, note_taken};
@@ -41,6 +45,7 @@ impl<R: React> Element<R> {
             → MayRead part a item → IsAt R.spec R.stands part self.new (takes part a (WasRead item)) poured) }
         ensures lacks { IfErr result (λ _. (part : Part) (a : At) (poured : List (List Value)) → IsAt R.spec R.stands part self.old a poured
             → IsSpent part self.new (drops a (WasRead item)) poured) }
+        ensures schemas { schemas_of self.new ≡ schemas_of self.old }
     {
         self.reads = !closes(&item);
         let Work::Chain(chain) = &mut self.work else {
@@ -65,6 +70,7 @@ impl<R: React> Element<R> {
             → MayRead part a (I.Tuple tuple.old) → IsAt R.spec R.stands part self.new (takes part a (WasRead (I.Tuple tuple.old))) poured) }
         ensures lacks { IfErr result (λ _. (part : Part) (a : At) (poured : List (List Value)) → IsAt R.spec R.stands part self.old a poured
             → IsSpent part self.new (drops a (WasRead (I.Tuple tuple.old))) poured) }
+        ensures schemas { schemas_of self.new ≡ schemas_of self.old }
     {
         let Work::Chain(chain) = &mut self.work else {
             unreachable!()
@@ -83,11 +89,12 @@ impl<R: React> Element<R> {
     /// Takes a packet from an input. Where there is no memory the packet counts as taken, and the element is to be cut.
     #[inline(always)]
     pub fn take(&mut self, input: u32, packet: Packet) -> Result<(), NoMemory>
-        requires may { (part : Part) × (a : At) × (poured : List (List Value)) × IsAt R.spec R.stands part self.old a poured × MayTake part a input packet }
+        requires may { (part : Part) × (a : At) × (poured : List (List Value)) × IsAt R.spec R.stands part self.old a poured × MayTake (schemas_of self.old) part a input packet }
         ensures takes { IfOk result (λ _. (part : Part) (a : At) (poured : List (List Value)) → IsAt R.spec R.stands part self.old a poured
-            → MayTake part a input packet → IsAt R.spec R.stands part self.new (takes part a (Popped input packet)) poured) }
+            → MayTake (schemas_of self.old) part a input packet → IsAt R.spec R.stands part self.new (takes part a (Popped input packet)) poured) }
         ensures lacks { IfErr result (λ _. (part : Part) (a : At) (poured : List (List Value)) → IsAt R.spec R.stands part self.old a poured
-            → IsSpent part self.new (drops a (Popped input packet)) poured) }
+            → MayTake (schemas_of self.old) part a input packet → IsSpent part self.new (drops a (Popped input packet)) poured) }
+        ensures schemas { schemas_of self.new ≡ schemas_of self.old }
     {
         note_taken(&mut self.inputs, input, &packet);
         if self.cut {
@@ -115,6 +122,7 @@ impl<R: React> Element<R> {
         ensures puts { (part : Part) (a : At) (poured : List (List Value)) → IsAt R.spec R.stands part self.old a poured → MatchOption result
             ((a.outbox ≡ []) × IsAt R.spec R.stands part self.new a poured)
             (λ p. WasPut part self.new a (outgoing p.0 p.1) × IsAt R.spec R.stands part self.new (puts a (outgoing p.0 p.1)) poured) }
+        ensures schemas { schemas_of self.new ≡ schemas_of self.old }
     {
         if self.cut {
             return self.put_cut();
@@ -137,6 +145,7 @@ impl<R: React> Element<R> {
         ensures puts { (part : Part) (a : At) (poured : List (List Value)) → IsAt R.spec R.stands part self.old a poured → MatchOption result
             ((a.outbox ≡ []) × IsAt R.spec R.stands part self.new a poured)
             (λ p. WasPut part self.new a (outgoing p.0 p.1) × IsAt R.spec R.stands part self.new (puts a (outgoing p.0 p.1)) poured) }
+        ensures schemas { schemas_of self.new ≡ schemas_of self.old }
     {
         match first_open(&self.outputs) {
             Some(output) => {
@@ -154,6 +163,7 @@ impl<R: React> Element<R> {
             × IsAt R.spec R.stands part self.old (puts a (outgoing output packet)) poured }
         ensures unputs { (part : Part) (a : At) (poured : List (List Value)) → WasPut part self.old a (outgoing output packet)
             → IsAt R.spec R.stands part self.old (puts a (outgoing output packet)) poured → IsAt R.spec R.stands part self.new a poured }
+        ensures schemas { schemas_of self.new ≡ schemas_of self.old }
     {
         set_ended(&mut self.outputs, output, self.was_ended);
         if !self.cut {
@@ -171,6 +181,39 @@ impl<R: React> Element<R> {
         match self.inputs.get(input as usize) {
             Some(noted) => !noted.ended && (self.cut || work_wants(&self.work, input)),
             None => false,
+        }
+    }
+
+    /// Whether a packet is proper behind those that were taken from an input.
+    fn is_proper(&self, input: u32, packet: &Packet) -> bool
+        ensures { (x : InputSpec) (schema : List (Named SplType)) → slice_get self.now.inputs input ≡ Some x
+            → slice_get self.now.ins input ≡ Some schema → result ≡ follows schema x packet.now }
+    {
+        let Some(noted) = self.inputs.get(input as usize) else {
+            return false;
+        };
+        match self.ins.get(input as usize) {
+            Some(schema) => noted.is_followed_by(schema.as_slice(), packet),
+            None => false,
+        }
+    }
+
+    /// Whether a packet may be taken from an input: nothing is to be put, the input is wanted, and the packet is proper
+    /// behind those that were taken there.
+    pub fn may_take(&self, input: u32, packet: &Packet) -> bool
+        requires may { (part : Part) × (a : At) × (poured : List (List Value)) × IsAt R.spec R.stands part self.now a poured × (input < inputs part) }
+        ensures may { (part : Part) (a : At) (poured : List (List Value)) → IsAt R.spec R.stands part self.now a poured → input < inputs part
+            → (schema : List (Named SplType)) → slice_get (schemas_of self.now) input ≡ Some schema
+            → IsTrue result ↔ ComesNext schema part a input packet.now }
+    {
+        match self.front() {
+            Some(_) => false,
+            None => {
+                if !self.wants(input) {
+                    return false;
+                }
+                self.is_proper(input, packet)
+            }
         }
     }
 
@@ -228,6 +271,7 @@ impl<R: React> Element<R> {
         ensures pours { (part : Part) (a : At) (poured : List (List Value)) → IsAt R.spec R.stands part self.old a poured → MatchOption result
             ((waiting part a poured ≡ []) × IsAt R.spec R.stands part self.new a poured)
             (λ tuple. Poured part a poured tuple × IsAt R.spec R.stands part self.new a (poured ++ tuple ∷ [])) }
+        ensures schemas { schemas_of self.new ≡ schemas_of self.old }
     {
         self.tuples.next(self.alloc)
     }
@@ -240,6 +284,7 @@ impl<R: React> Element<R> {
             → result ≡ true → Poured part a poured tuple.new × IsAt R.spec R.stands part self.new a (poured ++ tuple.new ∷ []) }
         ensures ends { (part : Part) (a : At) (poured : List (List Value)) → IsAt R.spec R.stands part self.old a poured
             → result ≡ false → (waiting part a poured ≡ []) × IsAt R.spec R.stands part self.new a poured }
+        ensures schemas { schemas_of self.new ≡ schemas_of self.old }
     {
         self.tuples.next_over(tuple)
     }
@@ -248,6 +293,7 @@ impl<R: React> Element<R> {
     pub fn cut(&mut self)
         ensures cuts { (part : Part) (a : At) (poured : List (List Value)) → IsSpent part self.old a poured
             → IsAt R.spec R.stands part self.new (cut_off part a) poured }
+        ensures schemas { schemas_of self.new ≡ schemas_of self.old }
     {
         self.cut = true;
         self.outbox.clear();

@@ -4,7 +4,7 @@ use crate::output::Output;
 use crate::work::Work;
 use element_outboxes::{Fan, Outbox};
 use element_works::Tuples;
-use spl_value::Items;
+use spl_value::{Items, Schema};
 use std::alloc::Global;
 
 /// A chain of fused operators, a splitter or a replica, with what it owes for what it has taken and hasn't put.
@@ -12,6 +12,8 @@ use std::alloc::Global;
 pub struct Element<R> {
     pub(crate) alloc: Global,
     pub(crate) work: Work<R>,
+    /// The attributes at each input.
+    pub(crate) ins: Items<Schema>,
     pub(crate) inputs: Items<Input>,
     /// Whether it has a source that isn't read to its last item.
     pub(crate) reads: bool,

@@ -1,8 +1,9 @@
 //! The inputs of an element.
 ghost use Rattle.std.specs.Prelude.{◌≡◌};
-ghost use Rattle.elements.specs.Inputs.{IsNoted, all_ended as all_ended_as, noted};
+ghost use Rattle.elements.specs.Inputs.{IsNoted, all_ended as all_ended_as, follows, noted};
 
-use spl_value::{Item, Items, Packet};
+use spl_value::{Attribute, Item, Items, Packet};
+use type_fits::item_fits;
 
 /// What was taken from an input: the number of the last item or pulse, whether an item closed its stream, and whether
 /// `Close` or `Cut` was.
@@ -29,6 +30,26 @@ impl Input {
             }
             Packet::Pulse(number) => self.low = *number,
             Packet::Close | Packet::Cut => self.ended = true,
+        }
+    }
+
+    /// Whether a packet is proper behind those that were taken from an input with these attributes.
+    pub(crate) fn is_followed_by(&self, schema: &[Attribute], packet: &Packet) -> bool
+        ensures { result ≡ follows schema.now self.now packet.now }
+    {
+        if self.ended {
+            return false;
+        }
+        match packet {
+            Packet::Item { number, item } => {
+                if self.low > *number || self.closed {
+                    return false;
+                }
+                item_fits(schema, item)
+            }
+            Packet::Pulse(number) => self.low <= *number,
+            Packet::Close => true,
+            Packet::Cut => true,
         }
     }
 }

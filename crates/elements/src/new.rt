@@ -5,7 +5,7 @@ ghost use Rattle.network_model.specs.States.{new_element};
 ghost use Rattle.element_outboxes.specs.Waiting.{outputs_in};
 ghost use Rattle.elements.specs.Inputs.{new_input};
 ghost use Rattle.elements.specs.New.{IsNew, new_output, places_for};
-ghost use Rattle.elements.specs.Standing.{IsAt};
+ghost use Rattle.elements.specs.Standing.{IsAt, schemas_of};
 
 use crate::element::Element;
 use crate::input::Input;
@@ -72,6 +72,7 @@ impl<R: React> Element<R> {
     pub fn new(alloc: Global, part: ElementPart<R>) -> Result<Element<R>, NoMemory>
         requires new { (p : Part) × IsNew R.spec R.stands p part }
         ensures begins { IfOk result (λ element. (p : Part) → IsNew R.spec R.stands p part → IsAt R.spec R.stands p element new_element []) }
+        ensures schemas { IfOk result (λ element. schemas_of element ≡ part.ins) }
     {
         let ElementPart {
             ids: _,
@@ -84,6 +85,7 @@ impl<R: React> Element<R> {
         Ok(Element {
             alloc,
             inputs: new_inputs(alloc, ins.len())?,
+            ins,
             reads: source.is_some(),
             fans: fans_of(alloc, fans.as_slice())?,
             outbox: Outbox::new(alloc),
