@@ -5,3 +5,4 @@ pub mod Putting
 pub mod Asking
 pub mod Beginning
 pub mod Propers
+pub mod Feeding

@@ -11,7 +11,7 @@ use Rattle.spl_value.specs.declared.types.Named.{Named}
 use Rattle.spl_value.specs.declared.types.SplType.{SplType}
 use Rattle.spl_value.specs.Numbered.{IsProper, NeverFalls, closes, ends_once, is_last, item_fits, items_of, numbers_of, stops_once}
 use Rattle.stream_model.specs.Stream.{any_closes}
-use Rattle.network_model.specs.Packets.{has_last}
+use Rattle.network_model.specs.Packets.{has_last, items_in}
 use Rattle.elements.specs.declared.input.Input.{Input}
 use Rattle.elements.specs.Inputs.{follows, noted, noted_all, new_input}
 use Rattle.elements.proofs.Receiving.{ended-is}
@@ -197,3 +197,22 @@ proper_last s ps (P.Pulse n) h =
     both_from (not i.ended) (nat_le i.low n) (unended-last s ps (P.Pulse n) h) (low-last s ps (P.Pulse n) n h refl)
 proper_last s ps P.Close h = unended-last s ps P.Close h
 proper_last s ps P.Cut h = unended-last s ps P.Cut h
+
+-- ---- what a proper packet says of those before it
+
+pub unended_item : (s : List (Named SplType)) (ps : List Packet) (p : Packet) → IsProper s (ps ++ p ∷ []) → has_last ps ≡ false
+unended_item s ps p h = unended-by ps (unended-last s ps p h)
+
+item_parts : (s : List (Named SplType)) (ps : List Packet) (n : ℕ) (x : Item) → IsProper s (ps ++ P.Item n x ∷ []) → (any_closes (items_in ps) ≡ false) × (item_fits s x ≡ true)
+item_parts s ps n x h =
+    let i : Input = noted_all new_input ps in
+    let a = both_true (not i.ended) (nat_le i.low n && (not i.closed && item_fits s x)) (proper_last s ps (P.Item n x) h) in
+    let b = both_true (nat_le i.low n) (not i.closed && item_fits s x) a.1 in
+    let c = both_true (not i.closed) (item_fits s x) b.1 in
+    (sym (closed-is ps) ∙ not_true i.closed c.0, c.1)
+
+pub unclosed_item : (s : List (Named SplType)) (ps : List Packet) (n : ℕ) (x : Item) → IsProper s (ps ++ P.Item n x ∷ []) → any_closes (items_in ps) ≡ false
+unclosed_item s ps n x h = (item_parts s ps n x h).0
+
+pub has_item : (s : List (Named SplType)) (ps : List Packet) (n : ℕ) (x : Item) → IsProper s (ps ++ P.Item n x ∷ []) → item_fits s x ≡ true
+has_item s ps n x h = (item_parts s ps n x h).1

@@ -3,3 +3,4 @@ pub mod Outputs
 pub mod Works
 pub mod Standing
 pub mod New
+pub mod Suiting

@@ -4,6 +4,7 @@
 mod calls;
 mod element;
 mod input;
+mod laws;
 mod new;
 mod next;
 mod output;
@@ -12,6 +13,7 @@ mod work;
 
 pub use element::Element;
 pub use input::Input;
+pub use laws::work_law;
 pub use next::Next;
 pub use output::Output;
 pub use part::ElementPart;
