@@ -1,6 +1,7 @@
 pub mod Blanks
 pub mod Complete
 pub mod Fitting
+pub mod ShortNumbers
 pub mod OneLine
 pub mod Pieces
 pub mod ReadingLaws
