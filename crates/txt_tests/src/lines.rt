@@ -8,7 +8,9 @@ use test_texts::spelled::spelled_out;
 use test_texts::text::Text;
 use test_texts::values::add_value;
 use test_texts::words::bytes;
-use txt_format::{TxtRow, fitting_law, one_line_law, one_tuple_law, read_row, write_row, written_law};
+use txt_format::{
+    TxtRow, fitting_law, one_line_law, one_tuple_law, read_row, write_row, written_law,
+};
 
 // A schema and a line: what the line gives.
 struct Lines;
@@ -185,6 +187,15 @@ n:uint32 | {n=4294967295} => <4294967295>
 n:uint32 | {n=4294967296} => bad
 n:uint64 | {n=18446744073709551615} => <18446744073709551615>
 n:uint64 | {n=18446744073709551616} => bad
+
+# of 18 digits and of 19
+n:int64 | {n=999999999999999999} => <999999999999999999>
+n:int64 | {n=-999999999999999999} => <-999999999999999999>
+n:int64 | {n=1000000000000000000} => <1000000000000000000>
+n:int64 | {n=-1000000000000000000} => <-1000000000000000000>
+n:int8 | {n=000000000000000007} => <7>
+n:int8 | {n=-0000000000000000007} => <-7>
+n:int8 | {n=999999999999999999} => bad
 
 # forms of integers and booleans
 n:uint8 | {n=-0} => <0>
