@@ -62,7 +62,7 @@ NR == 1 && wanted {
         if (part[1] != "rstring" && part[1] != "boolean" && !(part[1] in largest)) exit
         if (!is_written(field[at], part[1])) {
             text = length(field[at]) > 60 ? substr(field[at], 1, 60) " .." : field[at]
-            printf "Field %d is %s, and no %s is written \"%s\".\n", at, part[2], part[1], text
+            printf "Field %d is \"%s\", and %s is %s %s.\n", at, text, part[2], part[1] ~ /^i/ ? "an" : "a", part[1]
             exit
         }
     }

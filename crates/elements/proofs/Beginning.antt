@@ -111,21 +111,21 @@ module _ {R : Type 0} (spec : R → Operator) (stands : R → List Event → Typ
     counts = counts;
     outs_are = new.2;
     merger = subst (λ (z : Turning). TurnsAt region.width counts [] z fans) (sym new.0) (subst (λ fs. TurnsAt region.width counts [] (new_turning region.width) fs) (sym are) (begin_law region.width counts new.3 few).0);
-    order = none_in_order ByTurns region.width;
+    order = none_in_order region.rule region.width;
   }
   work_begins (Merger region outs) (W.Numbers m) counts fans t new are few room none = record {
     same_rule = new.1;
     counts = counts;
     outs_are = new.2;
     merger = subst (λ (z : Numbering). NumbersAt region.width counts [] z fans) (sym new.0) (subst (λ fs. NumbersAt region.width counts [] (new_numbering region.width) fs) (sym are) (begin_law region.width counts new.3 few).1);
-    order = none_in_order ByNumbers region.width;
+    order = none_in_order region.rule region.width;
   }
   work_begins (Merger region outs) (W.Pulses m) counts fans t new are few room none = record {
     same_rule = new.1;
     counts = counts;
     outs_are = new.2;
     merger = subst (λ (z : Held). PulsesAt region.width counts [] z fans) (sym new.0) (subst (λ fs. PulsesAt region.width counts [] (new_held region.width) fs) (sym are) (begin_law region.width counts new.3 few).2);
-    order = none_in_order ByPulses region.width;
+    order = none_in_order region.rule region.width;
   }
   work_begins (FromSource source ops outs) (W.Replica chain) counts fans t new are few room none = absurd new
   work_begins (FromSource source ops outs) (W.Splitter s) counts fans t new are few room none = absurd new

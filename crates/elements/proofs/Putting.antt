@@ -14,7 +14,7 @@ use Rattle.stream_model.specs.declared.outgoing.Outgoing.{Outgoing}
 use Rattle.network_model.specs.Networks.{Part, outputs}
 use Rattle.network_model.specs.Packets.{has_last}
 use Rattle.network_model.specs.States.{At, cuts_from, puts}
-use Rattle.network_model.proofs.Packets.{on_output-append}
+use Rattle.stream_model.proofs.Outputs.{on_output-append}
 use Rattle.element_outboxes.specs.Waiting.{IsFree, waits}
 use Rattle.element_outboxes.specs.declared.outbox.Outbox.{Outbox}
 use Rattle.elements.specs.declared.element.Element.{Element}

@@ -104,14 +104,13 @@ merger_ready held stood rule width_is wants_is region outs T m fans i p at may =
 )
 
 merger_more : {M : Type 0} (held : M → Held) (stood : ℕ → M → (ℕ → List Packet) → List Item → Type 0) (rule : Rule) (old new : M) (fans : List Fan) (V U : List Outgoing) (i : ℕ) (p : Packet)
-    → ((region : RegionPart) (counts : List ℕ) (T : List Receipt) → region.rule ≡ rule → MergerAt held stood rule region.width counts T old fans → InOrder rule region.width (λ c. popped c (T ++ Popped i p ∷ []))
+    → ((region : RegionPart) (counts : List ℕ) (T : List Receipt) → region.rule ≡ rule → MergerAt held stood rule region.width counts T old fans → InOrder region.rule region.width (λ c. popped c (T ++ Popped i p ∷ []))
     → MergerAt held stood rule region.width counts (T ++ Popped i p ∷ []) new fans × (U ≡ V ++ adds (Merger region (ports_of_fans counts)) T (Popped i p)))
     → (region : RegionPart) (outs : List ℕ) (T : List Receipt) → MergesAt held stood rule region outs T old fans → Merges region outs T i p
     → MergesAt held stood rule region outs (T ++ Popped i p ∷ []) new fans × (U ≡ V ++ adds (Merger region outs) T (Popped i p))
 merger_more held stood rule old new fans V U i p run region outs T at may =
-    let order : InOrder rule region.width (λ c. popped c (T ++ Popped i p ∷ [])) = subst (λ k. InOrder k region.width (λ c. popped c (T ++ Popped i p ∷ []))) at.same_rule may.order in
-    let r = run region at.counts T at.same_rule at.merger order in (
-      record { same_rule = at.same_rule; counts = at.counts; outs_are = at.outs_are; merger = r.0; order = order },
+    let r = run region at.counts T at.same_rule at.merger may.order in (
+      record { same_rule = at.same_rule; counts = at.counts; outs_are = at.outs_are; merger = r.0; order = may.order },
       r.1 ∙ ap (λ os. V ++ adds (Merger region os) T (Popped i p)) (sym at.outs_are),
     )
 
@@ -216,7 +215,7 @@ module _ {R : Type 0} (spec : R → Operator) (stands : R → List Event → Typ
   -- what a merger of this rule has run
   abbrev pub HasMerged : {M : Type 0} (held : M → Held) (stood : ℕ → M → (ℕ → List Packet) → List Item → Type 0) (rule : Rule) (old new : M) (fans : List Fan) (before after : Outbox) (i : ℕ) (p : Packet) → Type 0
   HasMerged held stood rule old new fans before after i p = (region : RegionPart) (counts : List ℕ) (T : List Receipt) → region.rule ≡ rule → MergerAt held stood rule region.width counts T old fans
-      → InOrder rule region.width (λ c. popped c (T ++ Popped i p ∷ []))
+      → InOrder region.rule region.width (λ c. popped c (T ++ Popped i p ∷ []))
       → MergerAt held stood rule region.width counts (T ++ Popped i p ∷ []) new fans × (waits after ≡ waits before ++ adds (Merger region (ports_of_fans counts)) T (Popped i p))
 
   pub turns_take : (old new : Turning) (fans : List Fan) (before after : Outbox) (t : Tuples) (i : ℕ) (p : Packet) → HasMerged (λ (m : Turning). m.held) TurnStands ByTurns old new fans before after i p

@@ -39,7 +39,7 @@ pub record MergesAt {M : Type 0} (held : M → Held) (stands : ℕ → M → (�
   pub counts : List ℕ
   pub outs_are : outs ≡ ports_of_fans counts
   pub merger : MergerAt held stands rule region.width counts receipts m fans
-  pub order : InOrder rule region.width (λ c. popped c receipts)
+  pub order : InOrder region.rule region.width (λ c. popped c receipts)
 
 -- the work of an element that isn't cut, and has taken this
 abbrev pub WorkAt : {R : Type 0} (spec : R → Operator) (stands : R → List Event → Type 0) → Part → List Receipt

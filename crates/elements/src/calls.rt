@@ -4,7 +4,6 @@ ghost use Rattle.spl_value.specs.declared.item.Item.TheVariants as I;
 ghost use Rattle.spl_value.specs.declared.value.Value.{Value};
 ghost use Rattle.spl_value.specs.declared.types.Named.{Named};
 ghost use Rattle.spl_value.specs.declared.types.SplType.{SplType};
-ghost use Rattle.spl_value.specs.Numbered.{closes as closes_as};
 ghost use Rattle.stream_model.specs.declared.outgoing.Outgoing.{Outgoing as OutgoingSpec};
 ghost use Rattle.stream_model.specs.Sending.{outgoing};
 ghost use Rattle.network_model.specs.Legal.{wants_at};
@@ -21,20 +20,10 @@ use crate::input::{all_ended, note_taken};
 use crate::next::Next;
 use crate::output::{first_open, note_put, set_ended};
 use crate::work::{Work, work_takes, work_wants};
+use element_outboxes::closes;
 use element_works::{run_chain, run_tuple};
 use spl_value::{Item, NoMemory, Packet, Values};
 use stream_model::React;
-
-/// Whether nothing follows the item in a stream.
-#[inline(always)]
-fn closes(item: &Item) -> bool
-    ensures { result ≡ closes_as item.now }
-{
-    match item {
-        Item::Tuple(_) | Item::Window => false,
-        Item::Final | Item::Bad(_) => true,
-    }
-}
 
 impl<R: React> Element<R> {
     /// Reads an item of the source. Where there is no memory the item counts as read, and the element is to be cut.
