@@ -1,0 +1,3 @@
+BEGIN { FS = OFS = "," }
+{ price[NR] = $3 }
+END { print NR, price[NR] }

@@ -1,0 +1,29 @@
+//! How many symbols there are, once the last price of each is kept in a map.
+
+use std::collections::HashMap;
+use std::fs::File;
+use std::io::{BufRead, BufReader, BufWriter, Write};
+
+fn main() -> Result<(), Box<dyn std::error::Error>> {
+    let mut input = BufReader::new(File::open("four.csv")?);
+    let mut output = BufWriter::new(File::create("out.csv")?);
+    let mut last: HashMap<String, i64> = HashMap::new();
+    let mut line = String::new();
+    while input.read_line(&mut line)? > 0 {
+        let mut fields = line.trim_end().split(',');
+        let _second: i64 = fields.next().ok_or("no second")?.parse()?;
+        let symbol = fields.next().ok_or("no symbol")?;
+        let price: i64 = fields.next().ok_or("no price")?.parse()?;
+        let _quantity: i64 = fields.next().ok_or("no quantity")?.parse()?;
+        match last.get_mut(symbol) {
+            Some(last) => *last = price,
+            None => {
+                last.insert(symbol.to_string(), price);
+            }
+        }
+        line.clear();
+    }
+    writeln!(output, "{}", last.len())?;
+    output.flush()?;
+    Ok(())
+}
