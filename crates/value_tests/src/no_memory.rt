@@ -1,6 +1,5 @@
-//! Puts that find no memory. The calls of this test find enough; so that each of its allocations fails in turn:
-//!
-//!     rt try --test --fail-alloc 1..
+//! Puts that find no memory. In the gate this test finds enough; `tools/failing-puts` runs it so that each of its
+//! allocations fails in turn.
 ghost use Rattle.std.specs.Prelude.{IsTrue};
 ghost use Rattle.spl_value.specs.Pairs.{are_pairs};
 
