@@ -2,6 +2,8 @@
 #![tactic(auto)]
 
 #[cfg(test)]
+mod beside;
+#[cfg(test)]
 mod events;
 #[cfg(test)]
 mod many;
@@ -9,3 +11,5 @@ mod many;
 mod rows;
 #[cfg(test)]
 mod rules;
+#[cfg(test)]
+mod sums;

@@ -1,5 +1,7 @@
+use crate::beside::Beside;
 use crate::events::Windows;
 use crate::many::{Keys, Tuples};
+use crate::sums::Sums;
 use std::test::Fail;
 use test_texts::rows::expect;
 
@@ -139,5 +141,51 @@ const KEYS: &str = r#"
 #[test]
 fn many_keys(rt: HostRuntime) -> Result<(), Fail> {
     expect(rt.alloc(), &Keys, &[KEYS])?;
+    Ok(())
+}
+
+const SUMS: &str = r#"
+# A sum wraps, and wraps down again when a tuple leaves
+sliding count 3 1 | min max sum8 | :5 :3 :4 :100 :27 => [5/5/5 of 5] [3/5/8 of 3] [3/5/12 of 4] [3/100/107 of 100] [4/100/-125 of 27]
+sliding count 2 1 | sum8 | :100 :100 :1 => [100 of 100] [-56 of 100] [101 of 1]
+sliding count 2 1 | sumu8 | :200 :100 :1 => [200 of 200] [44 of 100] [101 of 1]
+
+# Equal greatest values leave one by one, and so do texts
+sliding count 3 1 | max | :7 :7 :1 :2 :3 => [7 of 7] [7 of 7] [7 of 1] [7 of 2] [3 of 3]
+sliding count 2 1 | min max | :b :a :ab :c => [b/b of b] [a/b of a] [a/ab of ab] [ab/c of c]
+
+# The trigger is above the count, counts the tuples of a key, or is absent
+sliding count 2 3 | sum64 count first last | :1 :2 :3 :4 :5 :6 => . . [5/2/2/3 of 3] . . [11/2/5/6 of 6]
+sliding count 3 2 | sum64 | a:1 b:2 a:3 b:4 a:5 => . . [4 of 3] [6 of 4] .
+sliding count 2 | sum64 | :1 :2 :3 => . . .
+
+# Folds begin anew after each flush
+tumbling count 2 | sum64 max first | :9 :1 :2 :3 => . [10/9/9 of 1] . [5/3/2 of 3]
+tumbling count 2 | sum64 count min last | a:1 b:2 a:3 mark a:4 b:5 => . . [4/2/1/3 of 3] {} . [7/2/2/5 of 5]
+tumbling count 1 | max | :1 :2 => [1 of 1] [2 of 2]
+
+# Before the tuple that exceeds the first one by more than the limit, by the tuple and not by its arguments
+tumbling delta 0 10 | sum64 count | :0 :10 :11 :22 => . . [10/2 of 10] [11/1 of 11]
+tumbling delta 0 5 | sum64 | :0+100 :6+1 :7+1 :20+3 => . [100 of 0] . [2 of 7]
+tumbling delta 0 0 | count | :-9223372036854775808 :9223372036854775807 => . [1 of -9223372036854775808]
+
+# A marker flushes each key that has a tuple, by ascending key
+tumbling punct | sum64 last | b:1 a:2 b:3 mark a:4 mark mark => . . . {a[2/2 of 2] b[4/3 of 3]} . {a[4/4 of 4]} {}
+"#;
+
+#[test]
+fn running_sums(rt: HostRuntime) -> Result<(), Fail> {
+    expect(rt.alloc(), &Sums, &[SUMS])?;
+    Ok(())
+}
+
+const BESIDE: &str = r#"
+# Random programs: each answers as the folds over whole contents
+200 of 60 => 200
+"#;
+
+#[test]
+fn beside_whole_contents(rt: HostRuntime) -> Result<(), Fail> {
+    expect(rt.alloc(), &Beside, &[BESIDE])?;
     Ok(())
 }

@@ -27,7 +27,7 @@ fn integer(word: &str) -> i128 {
 
 // The rule of words: `tumbling count 2`, `tumbling delta 0 10` by the attribute's place and the limit,
 // `tumbling punct`, `sliding count 3 1` or `sliding delta 0 10 1` with the number of the trigger, or without it.
-fn rule_of(words: &str) -> Option<WindowRule>
+pub(crate) fn rule_of(words: &str) -> Option<WindowRule>
     ensures { IfSome result (λ rule. IsAllowed rule) }
 {
     let (kind, words) = cut(words);
