@@ -6,6 +6,7 @@ use test_texts::rows::{Untrue, expect_each};
 
 const BODIES: &[(Asked, &str)] = &[
     (Asked::Body, bodies::tables::ROWS),
+    (Asked::Body, bodies::tables::MAPS),
     (Asked::Body, bodies::tables::REFUSED),
     (Asked::Functions, bodies::tables::FUNCTIONS_REFUSED),
 ];

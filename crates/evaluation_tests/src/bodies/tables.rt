@@ -207,6 +207,30 @@ mutable int32 n = 0; @ while (n < 1000001) { n = n + 1; } @ 1000000 => Turns
 mutable int32 n = 0; mutable map<rstring, int64> m = {'a' : 1l, 'b' : 2l}; @ while (n < 1000000) { m['a'] = m['a'] + 1l; n = n + 1; } @ 1000000 => 1000000, {'a': 1000001, 'b': 2} | none | 0
 "#;
 
+/// Maps of many keys.
+pub(crate) const MAPS: &str = r#"
+# keys are put in each order
+mutable int32 n = 0; @ mutable map<int32, int32> m = {}; mutable int32 i = 0; while (i < 300) { m[i] = 2 * i; i = i + 1; } submit({n = m[0] + m[127] + m[128] + m[299]}, N); for (int32 x in m) { if (x == n) { n = n + 1; } } submit({n = size(m)}, N); @ 600 => 300 | 0:<1108>, 0:<300> | 0
+mutable int32 n = 0; @ mutable map<int32, int32> m = {}; mutable int32 i = 0; while (i < 300) { m[299 - i] = i; i = i + 1; } submit({n = m[0] + m[127] + m[128] + m[299]}, N); for (int32 x in m) { if (x == n) { n = n + 1; } } submit({n = size(m)}, N); @ 600 => 300 | 0:<642>, 0:<300> | 0
+# 7 and 300 have no common factor, so each key comes once; the values are 0 to 299.
+mutable int32 n = 0; @ mutable map<int32, int32> m = {}; mutable int32 i = 0; while (i < 300) { m[i * 7 % 300] = i; i = i + 1; } mutable int32 sum = 0; for (int32 x in m) { sum += m[x]; if (x == n) { n = n + 1; } } submit({n = sum}, N); submit({n = size(m)}, N); @ 600 => 300 | 0:<44850>, 0:<300> | 0
+mutable int32 n = 0; @ mutable map<int32, int32> m = {}; mutable int32 i = 0; while (i < 300) { m[i] = 2 * i; i = i + 1; } n = m[300]; @ 300 => NoKey
+
+# keys are taken out, absent ones too
+mutable int32 n = 0; @ mutable map<int32, int32> m = {}; mutable int32 i = 0; while (i < 300) { m[i] = 2 * i; i = i + 1; } i = 0; while (i < 150) { removeM(m, 2 * i + 1); removeM(m, 2 * i + 1); removeM(m, 300 + i); removeM(m, -1 - i); i = i + 1; } submit({n = size(m)}, N); for (int32 x in m) { if (x == 2 * n && m[x] == 4 * n) { n = n + 1; } } i = 0; while (i < 150) { m[2 * i + 1] = 0; i = i + 1; } submit({n = size(m)}, N); @ 750 => 150 | 0:<150>, 0:<300> | 0
+mutable int32 n = 0; @ mutable map<int32, int32> m = {}; mutable int32 i = 0; while (i < 300) { m[i] = 2 * i; i = i + 1; } i = 0; while (i < 300) { removeM(m, i); removeM(m, i); if (!has(m, i) && size(m) == 299 - i) { n = n + 1; } i = i + 1; } i = 0; while (i < 300) { m[i] = i; i = i + 1; } submit({n = size(m)}, N); @ 900 => 300 | 0:<300> | 0
+mutable int32 n = 0; @ mutable map<int32, int32> m = {}; mutable int32 i = 0; while (i < 300) { m[i] = 2 * i; i = i + 1; } while (i > 0) { i = i - 1; removeM(m, i); removeM(m, i); if (!has(m, i) && size(m) == i) { n = n + 1; } } m[5] = 6; submit({n = m[5]}, N); submit({n = size(m)}, N); @ 600 => 300 | 0:<6>, 0:<1> | 0
+mutable map<int32, int32> m = {}; @ mutable int32 i = 0; while (i < 300) { m[i] = i; i = i + 1; } removeM(m, -1); clearM(m); removeM(m, 7); @ 300 => {} | none | 0
+
+# maps in maps and in lists are their own
+mutable int32 n = 0; @ mutable map<int32, map<int32, int32>> m = {}; mutable int32 i = 0; while (i < 150) { m[i] = {}; mutable int32 j = 0; while (j < 150) { m[i][j] = i + j; j = j + 1; } i = i + 1; } map<int32, int32> k = m[8]; m[8][0] = -1; removeM(m[7], 149); removeM(m[7], 149); removeM(m[9], 500); submit({n = m[149][149]}, N); submit({n = size(m[7])}, N); submit({n = size(m[9])}, N); submit({n = k[0]}, N); for (int32 x in m) { for (int32 y in m[x]) { n = n + 1; } } @ 50000 => 22499 | 0:<298>, 0:<149>, 0:<150>, 0:<8> | 4701
+mutable int32 n = 0; @ mutable map<int32, int32> m = {}; mutable int32 i = 0; while (i < 300) { m[i] = 2 * i; i = i + 1; } mutable list<map<int32, int32>> xs = []; appendM(xs, m); m[0] = -5; appendM(xs, m); removeM(xs[0], 299); xs[0][300] = 1; submit({n = size(xs[0])}, N); submit({n = xs[1][0]}, N); submit({n = xs[1][299]}, N); submit({n = xs[0][0]}, N); if (xs[1] == m && xs[0] != m) { n = 1; } @ 300 => 1 | 0:<300>, 0:<-5>, 0:<598>, 0:<0> | 0
+
+# equal maps are equal, and one key, however they were built
+mutable int32 n = 0; @ mutable map<int32, int32> m = {}; mutable int32 i = 0; while (i < 300) { m[i] = 2 * i; i = i + 1; } mutable map<int32, int32> k = {}; i = 400; while (i > 0) { i = i - 1; k[i] = 2 * i; } i = 300; while (i < 400) { removeM(k, i); i = i + 1; } if (m == k) { n = n + 1; } k[299] = 0; if (m != k) { n = n + 1; } @ 800 => 2 | none | 0
+mutable int32 n = 0; @ mutable map<int32, int32> m = {}; mutable int32 i = 0; while (i < 300) { m[i] = 2 * i; i = i + 1; } mutable map<int32, int32> k = {}; i = 400; while (i > 0) { i = i - 1; k[i] = 2 * i; } i = 300; while (i < 400) { removeM(k, i); i = i + 1; } mutable map<map<int32, int32>, int32> t = {}; t[m] = 1; t[k] = 2; submit({n = t[m]}, N); n = size(t); @ 800 => 1 | 0:<2> | 0
+"#;
+
 pub(crate) const REFUSED: &str = r#"
 # No loop is around it.
 mutable int32 n = 0; mutable list<int32> xs = []; @ break; @ 0 => Y4 at 14
