@@ -30,11 +30,12 @@ pub fn run_merger<M: Merge>(
     requires wants { wants (M.held merger.old) channel ≡ true }
     requires uncut { is_cut packet ≡ false }
     requires fans { (counts : List ℕ) × (fans.now ≡ fans_from 0 counts) × (outputs_in counts < 2 ^ 32) }
-    ensures { IfOk result (λ _. (region : RegionPart) (counts : List ℕ) (receipts : List Receipt) → region.rule ≡ M.rule
+    ensures takes { IfOk result (λ _. (region : RegionPart) (counts : List ℕ) (receipts : List Receipt) → region.rule ≡ M.rule
         → MergerAt M.held M.stands M.rule region.width counts receipts merger.old fans.now
         → InOrder region.rule region.width (λ c. popped c (receipts ++ Popped channel packet ∷ []))
         → MergerAt M.held M.stands M.rule region.width counts (receipts ++ Popped channel packet ∷ []) merger.new fans.now
         × (waits outbox.new ≡ waits outbox.old ++ adds (MergerPart region (ports_of_fans counts)) receipts (Popped channel packet))) }
+    ensures width { width_of (M.held merger.new) ≡ width_of (M.held merger.old) }
 {
     merger.take(channel, packet);
     'items: loop {

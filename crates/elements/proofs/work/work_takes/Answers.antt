@@ -33,7 +33,7 @@ returns-in-Turns-clause-takes g c =
     ok_then _ _ c.run_merger.result
     (λ u run part T at may. turns_take g.R.React.spec g.R.React.stands c.in-Turns.merger c.run_merger.new.merger c.args.fans.now c.args.outbox.now c.run_merger.new.outbox c.args.tuples.now c.args.input c.args.packet
     run part T (subst (λ w. WorkAt g.R.React.spec g.R.React.stands part T w c.args.fans.now c.args.tuples.now) c.in-Turns.is at) may)
-    c.run_merger.ensures
+    c.run_merger.ensures.takes
 
 pub run_merger-requires-in-Numbers-clause-within : goal.run_merger-requires-in-Numbers-clause-within
 run_merger-requires-in-Numbers-clause-within g c =
@@ -50,7 +50,7 @@ returns-in-Numbers-clause-takes g c =
     ok_then _ _ c.run_merger-in-Numbers.result
     (λ u run part T at may. numbers_take g.R.React.spec g.R.React.stands c.in-Numbers.merger c.run_merger-in-Numbers.new.merger c.args.fans.now c.args.outbox.now c.run_merger-in-Numbers.new.outbox c.args.tuples.now c.args.input c.args.packet
     run part T (subst (λ w. WorkAt g.R.React.spec g.R.React.stands part T w c.args.fans.now c.args.tuples.now) c.in-Numbers.is at) may)
-    c.run_merger-in-Numbers.ensures
+    c.run_merger-in-Numbers.ensures.takes
 
 pub run_merger-requires-in-Pulses-clause-within : goal.run_merger-requires-in-Pulses-clause-within
 run_merger-requires-in-Pulses-clause-within g c =
@@ -67,4 +67,4 @@ returns-in-Pulses-clause-takes g c =
     ok_then _ _ c.run_merger-in-Pulses.result
     (λ u run part T at may. pulses_take g.R.React.spec g.R.React.stands c.in-Pulses.merger c.run_merger-in-Pulses.new.merger c.args.fans.now c.args.outbox.now c.run_merger-in-Pulses.new.outbox c.args.tuples.now c.args.input c.args.packet
     run part T (subst (λ w. WorkAt g.R.React.spec g.R.React.stands part T w c.args.fans.now c.args.tuples.now) c.in-Pulses.is at) may)
-    c.run_merger-in-Pulses.ensures
+    c.run_merger-in-Pulses.ensures.takes
