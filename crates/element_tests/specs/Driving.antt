@@ -1,5 +1,5 @@
--- What a driver of a splitter knows of it between two steps.
-use Rattle.std.specs.Prelude.{ℕ, ◌≡◌, ◌⊎◌, false, List, [], ◌∷◌, length}
+-- What drivers of splitters and mergers know of them between two steps.
+use Rattle.std.specs.Prelude.{ℕ, ◌≡◌, ◌<◌, ◌^◌, ◌⊎◌, false, List, [], ◌∷◌, length}
 use Rattle.spl_value.specs.declared.routing.Routing.{Routing}
 use Rattle.spl_value.specs.declared.routing.Routing.TheVariants.{Key, Turns}
 use Rattle.spl_value.specs.declared.types.IntKind.TheVariants.{I64}
@@ -10,6 +10,8 @@ use Rattle.hash_splitter.specs.Splitting.{Splitting}
 use Rattle.network_model.specs.Networks.{RegionPart}
 use Rattle.network_model.specs.Packets.{items_in}
 use Rattle.network_model.specs.Receipts.{Receipt, popped}
+use Rattle.element_outboxes.specs.Waiting.{fans_from, outputs_in}
+use Rattle.element_outboxes.specs.declared.fan.Fan.{Fan}
 use Rattle.element_works.specs.Works.{SplitterAt}
 
 -- one attribute, an int64
@@ -29,3 +31,7 @@ pub record Splits (width sent : ℕ) (s : Splitting) : Type 0 where
   pub routed : IsRouted region.routing
   pub same_width : region.width ≡ width
   pub same_sent : length (items_in (popped 0 receipts)) ≡ sent
+
+-- the outputs of some ports
+abbrev pub AreFans : List Fan → Type 0
+AreFans fans = (counts : List ℕ) × (fans ≡ fans_from 0 counts) × (outputs_in counts < 2 ^ 32)

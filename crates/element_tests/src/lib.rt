@@ -3,6 +3,8 @@
 #![tactic(auto)]
 
 #[cfg(test)]
+mod mergers;
+#[cfg(test)]
 mod outboxes;
 #[cfg(test)]
 mod shown;
