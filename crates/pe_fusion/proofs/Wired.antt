@@ -13,7 +13,7 @@ use Rattle.stream_model.specs.CheckedMeaning.{graph_of}
 use Rattle.stream_model.specs.Regions.{width_of}
 use Rattle.network_model.specs.Networks.{last_of, RegionPart, Part, FromSource, FromLinks, Splitter, Replica, Merger, inputs, outputs, Link, Net}
 use Rattle.pe_fusion.specs.FusedNets.{chain_of, channel_links, entry_at, links_in, links_of, merger_links, net_at, no_link, no_part, outputs_in, parts_at, parts_in, region_in, region_part, size_by}
-use Rattle.pe_fusion.specs.Fusing.{AreFused, AreRegions, AreWhole, GraphFits}
+use Rattle.pe_fusion.specs.Fusing.{AreFused, AreRegions, HaveAll, GraphFits}
 use Rattle.pe_fusion.specs.Pieces.{Piece, last_in, ops_in, pieces_of, replicated}
 use Rattle.pe_fusion.specs.Readers.{readers}
 use Rattle.pe_fusion.specs.Totals.{one_if, times}
@@ -35,7 +35,7 @@ pub by-source : (P : Part → Type 0) (op : Operator) (ops : List Operator) (out
 by-source P op ops outs sourced linked = cond_both (is_source op.clauses) (FromSource op ops outs) (FromLinks op ops outs) P sourced linked
 
 module _ (g : Graph) (plan : List Region) (w capacity : ℕ) (pieces : List Piece) (fits : GraphFits g) (regions : AreRegions g plan) (some : (i : ℕ) (r : Region) → slice_get plan i ≡ Some r → 0 < width_of r w)
-    (h : AreFused g (in_topo g) pieces) (whole : AreWhole g plan pieces) where
+    (h : AreFused g (in_topo g) pieces) (whole : HaveAll g plan pieces) where
   abbrev net : Net
   net = net_at g plan w capacity pieces
 

@@ -105,6 +105,7 @@ pub record HasAll (g : Graph) (regions : List Region) (r : Region) (p : Piece) :
   pub at : slice_get regions place ≡ Some r
   pub ops : ops_of g r.ops ≡ ops_in p
 
-abbrev pub AreWhole : Graph → List Region → List Piece → Type 0
-AreWhole g regions pieces =
+-- each piece that begins a region has all of it
+abbrev pub HaveAll : Graph → List Region → List Piece → Type 0
+HaveAll g regions pieces =
     (j : ℕ) (p : Piece) (r : Region) → slice_get pieces j ≡ Some p → region_in regions p ≡ Some r → HasAll g regions r p

@@ -9,7 +9,7 @@ use Rattle.stream_model.specs.Meaning.{Graph, in_topo}
 use Rattle.stream_model.specs.Regions.{IsPartOf, IsPlan, width_of}
 use Rattle.network_model.specs.Networks.{RegionPart, Merger, Net}
 use Rattle.network_model.specs.Wiring.{IsWired, RegionFits, Stands}
-use Rattle.pe_fusion.specs.Fusing.{AreFused, AreRegions, AreWhole, Each, GraphFits, Regional, TakesAlone}
+use Rattle.pe_fusion.specs.Fusing.{AreFused, AreRegions, HaveAll, Each, GraphFits, Regional, TakesAlone}
 use Rattle.pe_fusion.specs.FusedNets.{fused_net, net_at, region_part}
 use Rattle.pe_fusion.specs.Pieces.{in_region, Piece, ops_in, pieces_of, replicated}
 use Rattle.pe_fusion.specs.Shapes.{numbers}
@@ -36,7 +36,7 @@ PiecesLaw = (g : Graph) (regions : List Region) → GraphFits g → AreRegions g
 
 -- the piece of a region has all its operators
 abbrev pub WholeLaw : Type 0
-WholeLaw = (g : Graph) (regions : List Region) → GraphFits g → AreRegions g regions → AreWhole g regions (pieces_of g regions)
+WholeLaw = (g : Graph) (regions : List Region) → GraphFits g → AreRegions g regions → HaveAll g regions (pieces_of g regions)
 
 -- an operator stands directly behind another one in a piece
 pub record StandsBehind (pieces : List Piece) (producer op : Operator) : Type 0 where
@@ -63,7 +63,7 @@ OrderLaw = (g : Graph) (regions : List Region) → IsPartOf (map (λ (p : Piece)
 -- the network of pieces runs the graph
 abbrev pub WiredLaw : Type 0
 WiredLaw = (g : Graph) (plan : List Region) (width capacity : ℕ) (pieces : List Piece) → GraphFits g → AreRegions g (replicated width plan)
-    → AreFused g (in_topo g) pieces → AreWhole g (replicated width plan) pieces → IsWired g (net_at g (replicated width plan) width capacity pieces)
+    → AreFused g (in_topo g) pieces → HaveAll g (replicated width plan) pieces → IsWired g (net_at g (replicated width plan) width capacity pieces)
 
 -- so does that of a checked graph, its plan and any width
 abbrev pub FusedWired : Type 0
