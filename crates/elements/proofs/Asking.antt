@@ -1,5 +1,7 @@
 -- What an element wants, and what it does next.
 use Rattle.std.proofs.Common.{ℕ, ◌<◌, ◌&&◌, ◌||◌, not, Bool, true, false, List, [], ◌∷◌, ◌≡◌, ◌⊎◌, inl, inr, refl, sym, ap, ◌∙◌, subst, None, Some, slice_get, suc, zero}
+use Rattle.spl_value.proofs.Bools.{and_parts}
+use Rattle.spl_value.proofs.SegmentLaws.{not_true}
 use Rattle.std.proofs.lemmas.Option.{slice_get-get_or, slice_get_within}
 use Rattle.spl_value.specs.declared.packet.Packet.{Packet}
 use Rattle.spl_value.specs.declared.types.Named.{Named}
@@ -22,18 +24,10 @@ use Rattle.elements.proofs.Receiving.{ended-is}
 use Rattle.elements.proofs.Taking.{taken_kept}
 use Rattle.elements.proofs.Working.{works_want}
 
-both_true : (a b : Bool) → (a && b) ≡ true → (a ≡ true) × (b ≡ true)
-both_true true b e = (refl, e)
-both_true false b e = let clash : false ≡ true = e in cc
-
-not_true : (b : Bool) → not b ≡ true → b ≡ false
-not_true true e = let clash : false ≡ true = e in cc
-not_true false e = refl
-
 ended_each : (xs : List Input) → all_ended xs ≡ true → (i : ℕ) (x : Input) → slice_get xs i ≡ Some x → x.ended ≡ true
 ended_each [] all i x got = cc
-ended_each (y ∷ xs) all zero x got = let same : y ≡ x = cc in ap (λ (z : Input). z.ended) (sym same) ∙ (both_true y.ended (all_ended xs) all).0
-ended_each (y ∷ xs) all (suc i) x got = ended_each xs (both_true y.ended (all_ended xs) all).1 i x got
+ended_each (y ∷ xs) all zero x got = let same : y ≡ x = cc in ap (λ (z : Input). z.ended) (sym same) ∙ (and_parts y.ended (all_ended xs) all).0
+ended_each (y ∷ xs) all (suc i) x got = ended_each xs (and_parts y.ended (all_ended xs) all).1 i x got
 
 all_each : (xs : List Input) → ((i : ℕ) (x : Input) → slice_get xs i ≡ Some x → x.ended ≡ true) → all_ended xs ≡ true
 all_each [] each = refl
@@ -74,9 +68,9 @@ module _ {R : Type 0} (spec : R → Operator) (stands : R → List Event → Typ
 
   pub reads_still : (e : Element R) (part : Part) (a : At) (poured : List (List Value)) → IsAt spec stands part e a poured → (e.reads && not e.cut) ≡ true → StillReads part a
   reads_still e part a poured at on =
-      let both = both_true e.reads (not e.cut) on in
+      let both = and_parts e.reads (not e.cut) on in
       let uncut : a.cut ≡ false = sym at.spent.cut ∙ not_true e.cut both.1 in
-      let source = both_true (is_sourced part) (not (any_closes (read_in a.kept))) (sym (at.reads uncut) ∙ both.0) in
+      let source = and_parts (is_sourced part) (not (any_closes (read_in a.kept))) (sym (at.reads uncut) ∙ both.0) in
       record { whole = uncut; sourced = source.0; unclosed = not_true (any_closes (read_in a.kept)) source.1 }
 
   pub reads_no_more : (e : Element R) (part : Part) (a : At) (poured : List (List Value)) → IsAt spec stands part e a poured → (e.reads && not e.cut) ≡ false → StillReads part a → ⊥

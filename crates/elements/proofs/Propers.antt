@@ -1,5 +1,7 @@
 -- Proper packets, and one packet more.
 use Rattle.std.proofs.Common.{ℕ, ◌≤◌, ◌||◌, ◌&&◌, nat_le, not, Bool, true, false, cond, List, [], ◌∷◌, ◌++◌, ◌≡◌, map, length, refl, sym, ap, ◌∙◌, subst, append-nil, arith}
+use Rattle.spl_value.proofs.Bools.{and_parts}
+use Rattle.spl_value.proofs.SegmentLaws.{not_true}
 use Rattle.std.proofs.lemmas.Bool.{leb-true, le-leb}
 use Rattle.std.proofs.lemmas.List.{map-append}
 use Rattle.std.proofs.lemmas.List.Folds.{list_all-append}
@@ -16,16 +18,8 @@ use Rattle.elements.specs.declared.input.Input.{Input}
 use Rattle.elements.specs.Inputs.{follows, noted, noted_all, new_input}
 use Rattle.elements.proofs.Receiving.{ended-is}
 
-both_true : (a b : Bool) → (a && b) ≡ true → (a ≡ true) × (b ≡ true)
-both_true true b e = (refl, e)
-both_true false b e = let clash : false ≡ true = e in cc
-
 both_from : (a b : Bool) → a ≡ true → b ≡ true → (a && b) ≡ true
 both_from a b p q = ap (λ x. x && b) p ∙ q
-
-not_true : (b : Bool) → not b ≡ true → b ≡ false
-not_true true e = let clash : false ≡ true = e in cc
-not_true false e = refl
 
 never : (b : Bool) → (b && false) ≡ false
 never true = refl
@@ -157,9 +151,9 @@ low-by-last ps n e = subst (λ k. k ≤ n) (low-is ps) (leb-true (noted_all new_
 pub proper_next : (s : List (Named SplType)) (ps : List Packet) (p : Packet) → IsProper s ps → follows s (noted_all new_input ps) p ≡ true → IsProper s (ps ++ p ∷ [])
 proper_next s ps (P.Item n x) h e =
     let i : Input = noted_all new_input ps in
-    let a = both_true (not i.ended) (nat_le i.low n && (not i.closed && item_fits s x)) e in
-    let b = both_true (nat_le i.low n) (not i.closed && item_fits s x) a.1 in
-    let c = both_true (not i.closed) (item_fits s x) b.1 in
+    let a = and_parts (not i.ended) (nat_le i.low n && (not i.closed && item_fits s x)) e in
+    let b = and_parts (nat_le i.low n) (not i.closed && item_fits s x) a.1 in
+    let c = and_parts (not i.closed) (item_fits s x) b.1 in
     record {
       fit = ap (list_all (schema_fits s)) (items-last ps (P.Item n x)) ∙ list_all-append (schema_fits s) (items_of ps) ((n, x) ∷ [])
           ∙ both_from (list_all (schema_fits s) (items_of ps)) (item_fits s x && true) h.fit (both_from (item_fits s x) true c.1 refl);
@@ -170,14 +164,14 @@ proper_next s ps (P.Item n x) h e =
     }
 proper_next s ps (P.Pulse n) h e =
     let i : Input = noted_all new_input ps in
-    let a = both_true (not i.ended) (nat_le i.low n) e in
+    let a = and_parts (not i.ended) (nat_le i.low n) e in
     no_item s ps (P.Pulse n) h refl (unended-by ps a.0) (falls-more 0 (numbers_of ps) n h.falls (low-by-last ps n a.1))
 proper_next s ps P.Close h e = no_item s ps P.Close h refl (unended-by ps e) (subst (NeverFalls 0) (sym (append-nil (numbers_of ps))) h.falls)
 proper_next s ps P.Cut h e = no_item s ps P.Cut h refl (unended-by ps e) (subst (NeverFalls 0) (sym (append-nil (numbers_of ps))) h.falls)
 
 -- and what does
 unended-last : (s : List (Named SplType)) (ps : List Packet) (p : Packet) → IsProper s (ps ++ p ∷ []) → not (noted_all new_input ps).ended ≡ true
-unended-last s ps p h = ap not (ended-is ps) ∙ (both_true (stops_once ps) (not (has_last ps)) (sym (stops-last ps p) ∙ h.stops)).1
+unended-last s ps p h = ap not (ended-is ps) ∙ (and_parts (stops_once ps) (not (has_last ps)) (sym (stops-last ps p) ∙ h.stops)).1
 
 low-last : (s : List (Named SplType)) (ps : List Packet) (p : Packet) (n : ℕ) → IsProper s (ps ++ p ∷ []) → numbers_of (p ∷ []) ≡ n ∷ [] → nat_le (noted_all new_input ps).low n ≡ true
 low-last s ps p n h is =
@@ -186,12 +180,12 @@ low-last s ps p n h is =
 pub proper_last : (s : List (Named SplType)) (ps : List Packet) (p : Packet) → IsProper s (ps ++ p ∷ []) → follows s (noted_all new_input ps) p ≡ true
 proper_last s ps (P.Item n x) h =
     let i : Input = noted_all new_input ps in
-    let fits = both_true (list_all (schema_fits s) (items_of ps)) (item_fits s x && true) (sym (ap (list_all (schema_fits s)) (items-last ps (P.Item n x)) ∙ list_all-append (schema_fits s) (items_of ps) ((n, x) ∷ [])) ∙ h.fit) in
-    let ends = both_true (ends_once (items_at ps)) (not (any_closes (items_at ps)))
+    let fits = and_parts (list_all (schema_fits s) (items_of ps)) (item_fits s x && true) (sym (ap (list_all (schema_fits s)) (items-last ps (P.Item n x)) ∙ list_all-append (schema_fits s) (items_of ps) ((n, x) ∷ [])) ∙ h.fit) in
+    let ends = and_parts (ends_once (items_at ps)) (not (any_closes (items_at ps)))
     (sym (ap (λ qs. ends_once (map (λ (q : ℕ × Item). q.1) qs)) (items-last ps (P.Item n x)) ∙ ap ends_once (map-append (λ (q : ℕ × Item). q.1) (items_of ps) ((n, x) ∷ [])) ∙ ends-last (items_at ps) x) ∙ h.ends) in
     both_from (not i.ended) (nat_le i.low n && (not i.closed && item_fits s x)) (unended-last s ps (P.Item n x) h)
     (both_from (nat_le i.low n) (not i.closed && item_fits s x) (low-last s ps (P.Item n x) n h refl)
-    (both_from (not i.closed) (item_fits s x) (ap not (closed-is ps) ∙ ends.1) (both_true (item_fits s x) true fits.1).0))
+    (both_from (not i.closed) (item_fits s x) (ap not (closed-is ps) ∙ ends.1) (and_parts (item_fits s x) true fits.1).0))
 proper_last s ps (P.Pulse n) h =
     let i : Input = noted_all new_input ps in
     both_from (not i.ended) (nat_le i.low n) (unended-last s ps (P.Pulse n) h) (low-last s ps (P.Pulse n) n h refl)
@@ -206,9 +200,9 @@ unended_item s ps p h = unended-by ps (unended-last s ps p h)
 item_parts : (s : List (Named SplType)) (ps : List Packet) (n : ℕ) (x : Item) → IsProper s (ps ++ P.Item n x ∷ []) → (any_closes (items_in ps) ≡ false) × (item_fits s x ≡ true)
 item_parts s ps n x h =
     let i : Input = noted_all new_input ps in
-    let a = both_true (not i.ended) (nat_le i.low n && (not i.closed && item_fits s x)) (proper_last s ps (P.Item n x) h) in
-    let b = both_true (nat_le i.low n) (not i.closed && item_fits s x) a.1 in
-    let c = both_true (not i.closed) (item_fits s x) b.1 in
+    let a = and_parts (not i.ended) (nat_le i.low n && (not i.closed && item_fits s x)) (proper_last s ps (P.Item n x) h) in
+    let b = and_parts (nat_le i.low n) (not i.closed && item_fits s x) a.1 in
+    let c = and_parts (not i.closed) (item_fits s x) b.1 in
     (sym (closed-is ps) ∙ not_true i.closed c.0, c.1)
 
 pub unclosed_item : (s : List (Named SplType)) (ps : List Packet) (n : ℕ) (x : Item) → IsProper s (ps ++ P.Item n x ∷ []) → any_closes (items_in ps) ≡ false

@@ -6,6 +6,7 @@ use Rattle.std.specs.Cmp.Lexicographic.{pointwise}
 use Rattle.std.specs.Cmp.{first_so, second_so}
 use Rattle.std.specs.Cmp.Derive.{both_true}
 use Rattle.std.proofs.Common.{refl, sym, ap, ◌∙◌, append_assoc, arith, inl, inr}
+use Rattle.spl_value.proofs.SegmentLaws.{not_true}
 use Rattle.std.proofs.lemmas.Bool.{cases_Bool, eq-eqb, eqb-true}
 use Rattle.std.proofs.Math.Seq.{drop-append_seam}
 use Rattle.txt_format.specs.TxtSpelling.{are_blanks, is_blank}
@@ -38,10 +39,6 @@ past_all (b ∷ bs) rest h =
 unfoldable pub begins : List ℕ → Bool
 begins [] = true
 begins (b ∷ bs) = not (is_blank b)
-
-pub not_true : (b : Bool) → not b ≡ true → b ≡ false
-not_true true h = absurd (cc)
-not_true false h = refl
 
 pub past_none : (bytes : List ℕ) → begins bytes ≡ true → past_blanks bytes ≡ bytes
 unfolding begins

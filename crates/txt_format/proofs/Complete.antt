@@ -21,7 +21,8 @@ use Rattle.txt_format.specs.Escapes.Means.{nothing, plain, escape}
 use Rattle.txt_format.specs.TxtSpelling.{Inside, SpellAttributes, SpellElements, SpellPairs, Spells, SpellsValue, are_blanks, begins_blank, is_blank}
 use Rattle.txt_format.specs.steps.Bytes.{is_part, past_blanks, past_byte, past_mark, past_name}
 use Rattle.txt_format.specs.steps.Reading.{as_other, meant, past_separator, push, put, read_fields, read_inside, read_int, read_items, read_list, read_map, read_opened, read_pair, read_text, read_tuple, read_value}
-use Rattle.txt_format.proofs.Blanks.{begins, behind_none, behind_piece, behind_some, byte_here, ends, ends_behind, enough, joined, mark_here, name_here, not_true, past_all, past_to, stop_begins, stop_colon, stop_comma, stop_curly, stop_square, stops}
+use Rattle.spl_value.proofs.SegmentLaws.{not_true}
+use Rattle.txt_format.proofs.Blanks.{begins, behind_none, behind_piece, behind_some, byte_here, ends, ends_behind, enough, joined, mark_here, name_here, past_all, past_to, stop_begins, stop_colon, stop_comma, stop_curly, stop_square, stops}
 use Rattle.txt_format.proofs.ReadingLaws.{read_of_bool, read_of_int, read_of_list, read_of_map, read_of_text, read_of_tuple}
 use Rattle.txt_format.proofs.Steps.{items_close, items_more}
 

@@ -1,5 +1,6 @@
 -- Keys that rise, seen pair by pair.
 use Rattle.std.proofs.Common.{Bool, true, false, ◌&&◌, List, [], ◌∷◌, ◌≡◌, Option, None, Some, refl, sym, ap, ◌∙◌}
+use Rattle.spl_value.proofs.Bools.{and_parts}
 use Rattle.std.specs.declared.cmp.Ordering.{Ordering}
 use Rattle.std.specs.declared.cmp.Ordering.TheVariants.{Less, Equal, Greater}
 use Rattle.std.specs.Ordering.{is_lt}
@@ -15,10 +16,6 @@ rise_from before [] = true
 rise_from None (p ∷ ps) = rise_from (Some p.0) ps
 rise_from (Some k) (p ∷ ps) = is_lt (value_cmp k p.0) && rise_from (Some p.0) ps
 
-both_true : (a b : Bool) → (a && b) ≡ true → (a ≡ true) × (b ≡ true)
-both_true true b e = (refl, e)
-both_true false b e = let clash : false ≡ true = e in cc
-
 less : (o : Ordering) → is_lt o ≡ true → o ≡ Less
 less Less e = refl
 less Equal e = let clash : false ≡ true = e in cc
@@ -27,7 +24,7 @@ less Greater e = let clash : false ≡ true = e in cc
 below_less : (x y : Value) (es : List (Value × Value)) → value_cmp x y ≡ Less → below_all value_cmp y es ≡ true → below_all value_cmp x es ≡ true
 below_less x y [] p h = refl
 below_less x y (e ∷ es) p h =
-    let both = both_true (is_lt (value_cmp y e.0)) (below_all value_cmp y es) h in
+    let both = and_parts (is_lt (value_cmp y e.0)) (below_all value_cmp y es) h in
     ap (λ r. is_lt r && below_all value_cmp x es) (value_cmp_total.trans x y e.0 p (less (value_cmp y e.0) both.0)) ∙ below_less x y es p both.1
 
 rise_some : (k : Value) (ps : List (Value × Value)) → (below_all value_cmp k ps && is_sorted value_cmp ps) ≡ rise_from (Some k) ps
