@@ -1,0 +1,3 @@
+pub mod Totals
+pub mod Grouping
+pub mod Marking
