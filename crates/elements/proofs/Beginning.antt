@@ -13,6 +13,7 @@ use Rattle.stream_model.proofs.ChainStages.{stages_after-none}
 use Rattle.network_model.specs.Networks.{Part, FromSource, FromLinks, Splitter, Replica, Merger, is_sourced, last_of}
 use Rattle.network_model.specs.Sinks.{for_sink, is_sink, pours}
 use Rattle.network_model.specs.States.{new_element}
+use Rattle.network_model.proofs.ElementRule.{rule-begins}
 use Rattle.operator_chains.specs.Standing.{AtChain, places_of}
 use Rattle.operator_chains.specs.declared.chain.Chain.{Chain}
 use Rattle.element_outboxes.specs.Waiting.{fans_from, outputs_in, waits}
@@ -164,6 +165,7 @@ module _ {R : Type 0} (spec : R → Operator) (stands : R → List Event → Typ
       output_count = ap length outs ∙ length-replicate (outputs_in made.fans) new_output ∙ new.output_count;
       put = λ o x got. ap (λ (y : Output). y.ended) (each_same (outputs_in made.fans) new_output o x (ap (λ xs. slice_get xs o) (sym outs) ∙ got));
       few = new.few;
+      rule = rule-begins part;
       cuts = λ q. let clash : false ≡ true = q in cc;
       closed = refl;
       front = (pours part [], refl);

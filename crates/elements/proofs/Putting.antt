@@ -14,6 +14,7 @@ use Rattle.stream_model.specs.declared.outgoing.Outgoing.{Outgoing}
 use Rattle.network_model.specs.Networks.{Part, outputs}
 use Rattle.network_model.specs.Packets.{has_last}
 use Rattle.network_model.specs.States.{At, cuts_from, puts}
+use Rattle.network_model.proofs.ElementRule.{rule-puts, rule-unputs}
 use Rattle.stream_model.proofs.Outputs.{on_output-append}
 use Rattle.element_outboxes.specs.Waiting.{IsFree, waits}
 use Rattle.element_outboxes.specs.declared.outbox.Outbox.{Outbox}
@@ -113,8 +114,8 @@ module _ {R : Type 0} (spec : R → Operator) (stands : R → List Event → Typ
   handed_out e outbox outs was = record { alloc = e.alloc; work = e.work; ins = e.ins; inputs = e.inputs; reads = e.reads; fans = e.fans; outbox = outbox; outputs = outs; was_ended = was; tuples = e.tuples; cut = e.cut }
 
   put_spent : (e : Element R) (outbox : Outbox) (outs : List Output) (was : Bool) (s : Outgoing) → IsPut s.output s.packet e.outputs outs → (part : Part) (a : At) (poured : List (List Value)) → IsSpent part e a poured
-      → (a.cut ≡ true → drop 1 a.outbox ≡ cuts_from 0 (outputs part) (a.pushed ++ s ∷ [])) → IsSpent part (handed_out e outbox outs was) (puts a s) poured
-  put_spent e outbox outs was s noted part a poured spent cuts = record {
+      → (rest : List Outgoing) → a.outbox ≡ s ∷ rest → (a.cut ≡ true → drop 1 a.outbox ≡ cuts_from 0 (outputs part) (a.pushed ++ s ∷ [])) → IsSpent part (handed_out e outbox outs was) (puts a s) poured
+  put_spent e outbox outs was s noted part a poured spent rest first cuts = record {
     cut = spent.cut;
     input_count = spent.input_count;
     taken = spent.taken;
@@ -125,6 +126,7 @@ module _ {R : Type 0} (spec : R → Operator) (stands : R → List Event → Typ
         let x = noted.each o y got in
         x.2 ∙ ap (λ b. cond (s.output == o) (b || is_last s.packet) b) (spent.put o x.0 x.1) ∙ sym (last-put o a.pushed s));
     few = spent.few;
+    rule = rule-puts part a s rest first spent.rule;
     cuts = cuts;
     closed = spent.closed;
     front = spent.front;
@@ -149,7 +151,7 @@ module _ {R : Type 0} (spec : R → Operator) (stands : R → List Event → Typ
           free = λ q. free;
         },
         record {
-          spent = put_spent e outbox outs was s noted part a poured at.spent (λ q. let clash : true ≡ false = sym q ∙ uncut in cc);
+          spent = put_spent e outbox outs was s noted part a poured at.spent (waits outbox) first (λ q. let clash : true ≡ false = sym q ∙ uncut in cc);
           outbox = λ q. ap (drop 1) first;
           tuples = at.tuples;
           kept = at.kept;
@@ -176,7 +178,7 @@ module _ {R : Type 0} (spec : R → Operator) (stands : R → List Event → Typ
           free = λ q. absurd (let clash : true ≡ false = sym is ∙ q in cc);
         },
         record {
-          spent = put_spent e e.outbox outs was (outgoing k P.Cut) noted part a poured at.spent (λ q. ap (drop 1) first ∙ sym c.2 ∙ ap (λ n. cuts_from 0 n (a.pushed ++ outgoing k P.Cut ∷ [])) count);
+          spent = put_spent e e.outbox outs was (outgoing k P.Cut) noted part a poured at.spent c.0 first (λ q. ap (drop 1) first ∙ sym c.2 ∙ ap (λ n. cuts_from 0 n (a.pushed ++ outgoing k P.Cut ∷ [])) count);
           outbox = λ q. let clash : true ≡ false = sym is ∙ q in cc;
           tuples = at.tuples;
           kept = at.kept;
@@ -213,6 +215,7 @@ module _ {R : Type 0} (spec : R → Operator) (stands : R → List Event → Typ
           let x = set.each o y got in
           x.2 ∙ ended o (s.output == o) refl x.0 x.1);
       few = at.spent.few;
+      rule = rule-unputs part a s was.rest was.front at.spent.rule;
       cuts = was.cuts;
       closed = at.spent.closed;
       front = at.spent.front;

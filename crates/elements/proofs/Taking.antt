@@ -18,6 +18,7 @@ use Rattle.network_model.specs.Receipts.{Receipt, Popped, WasRead, popped, read_
 use Rattle.network_model.specs.Sinks.{pours, pours_more}
 use Rattle.network_model.specs.States.{At, all_taken, cut_off, cuts_from, drops, keeps, takes, waiting}
 use Rattle.network_model.proofs.Adds.{pours_law}
+use Rattle.network_model.proofs.ElementRule.{rule-cut, rule-drops, rule-keeps}
 use Rattle.network_model.proofs.Receipts.{read_in-append}
 use Rattle.element_outboxes.specs.declared.outbox.Outbox.{Outbox}
 use Rattle.element_works.specs.Tuples.{HasTaken, IsKept, room_of, sink_waits}
@@ -75,6 +76,7 @@ module _ {R : Type 0} (spec : R → Operator) (stands : R → List Event → Typ
           output_count = at.spent.output_count;
           put = at.spent.put;
           few = at.spent.few;
+          rule = rule-keeps part a r uncut at.spent.rule;
           cuts = λ q. let clash : true ≡ false = sym q ∙ uncut in cc;
           closed = closed;
           front = (front.0 ++ pours_more part a.kept r, longer);
@@ -106,6 +108,7 @@ module _ {R : Type 0} (spec : R → Operator) (stands : R → List Event → Typ
     output_count = spent.output_count;
     put = spent.put;
     few = spent.few;
+    rule = rule-drops part a (Popped i p) spent.rule;
     cuts = spent.cuts;
     closed = spent.closed;
     front = spent.front;
@@ -182,6 +185,7 @@ module _ {R : Type 0} (spec : R → Operator) (stands : R → List Event → Typ
     output_count = at.spent.output_count;
     put = at.spent.put;
     few = at.spent.few;
+    rule = rule-drops part a (WasRead x) at.spent.rule;
     cuts = at.spent.cuts;
     closed = at.spent.closed;
     front = at.spent.front;
@@ -215,6 +219,7 @@ module _ {R : Type 0} (spec : R → Operator) (stands : R → List Event → Typ
                 output_count = at.spent.output_count;
                 put = at.spent.put;
                 few = at.spent.few;
+                rule = at.spent.rule;
                 cuts = at.spent.cuts;
                 closed = at.spent.closed;
                 front = (sink_waits t, whole);
@@ -243,6 +248,7 @@ module _ {R : Type 0} (spec : R → Operator) (stands : R → List Event → Typ
         output_count = at.spent.output_count;
         put = at.spent.put;
         few = at.spent.few;
+        rule = at.spent.rule;
         cuts = at.spent.cuts;
         closed = at.spent.closed;
         front = at.spent.front;
@@ -287,6 +293,7 @@ module _ {R : Type 0} (spec : R → Operator) (stands : R → List Event → Typ
           output_count = spent.output_count;
           put = spent.put;
           few = spent.few;
+          rule = spent.rule;
           cuts = spent.cuts;
           closed = spent.closed;
           front = spent.front;
@@ -309,6 +316,7 @@ module _ {R : Type 0} (spec : R → Operator) (stands : R → List Event → Typ
               output_count = spent.output_count;
               put = spent.put;
               few = spent.few;
+              rule = rule-cut part a q spent.rule;
               cuts = λ u. refl;
               closed = spent.closed;
               front = spent.front;

@@ -10,6 +10,7 @@ use Rattle.stream_model.specs.Operators.{Operator}
 use Rattle.stream_model.specs.Sending.{on_output}
 use Rattle.stream_model.specs.Stream.{Event, IsPrefix, any_closes, is_closed}
 use Rattle.stream_model.specs.declared.outgoing.Outgoing.{Outgoing}
+use Rattle.network_model.specs.ElementRule.{KeepsRule}
 use Rattle.network_model.specs.Legal.{IsDone, wants_at}
 use Rattle.network_model.specs.Networks.{Part, inputs, outputs, is_sourced}
 use Rattle.network_model.specs.Packets.{has_last}
@@ -38,6 +39,7 @@ pub record IsSpent {R : Type 0} (part : Part) (e : Element R) (a : At) (poured :
   pub output_count : length e.outputs ≡ outputs part
   pub put : (o : ℕ) (x : Output) → slice_get e.outputs o ≡ Some x → x.ended ≡ has_last (on_output o a.pushed)
   pub few : outputs part < 2 ^ 32
+  pub rule : KeepsRule part a
   pub cuts : a.cut ≡ true → a.outbox ≡ cuts_from 0 (outputs part) a.pushed
   pub closed : any_closes (read_in a.kept) ≡ is_closed (read_in a.kept)
   pub front : IsPrefix poured (pours part a.kept)

@@ -16,20 +16,14 @@ use Rattle.network_model.specs.Packets.{items_in, has_last, without_cut, packets
 use Rattle.network_model.specs.Networks.{Part, FromSource, FromLinks, Splitter, Replica, Merger, inputs, outputs, Net}
 use Rattle.network_model.specs.Receipts.{Taken}
 use Rattle.network_model.specs.Owed.{owed, item_lists, Binds}
-use Rattle.network_model.specs.Joined.{owed_on, NetworkLists, IsRecorded, Recorded, IsCutOff, IsJoined, Settled, IsInProgress, InProgress}
+use Rattle.network_model.specs.Joined.{owed_on, NetworkLists, IsRecorded, IsCutOff, IsJoined, Settled, IsInProgress, InProgress}
 use Rattle.network_model.specs.Wiring.{Fed}
 use Rattle.network_model.specs.Flow.{flows, flow, expects, IsUnder, IsUnderAt}
 use Rattle.network_model.specs.PartLaws.{IsLess, IsPart}
 use Rattle.network_laws.specs.Flowing.{entries_for, full, IsFlowing, ProgressFlowLaw, SettledFlowLaw, JoinedAreInProgress}
 use Rattle.network_model.proofs.Packets.{front-trans, front-same, front-left, front-on_output, front-items, front-without_cut, items_in-without_cut, items_in-packets_of, without_cut-append, stops-end}
 use Rattle.network_model.proofs.Arrivals.{zeros-front}
-
-pub recorded-moves : (part : Part) (t : Taken) (cut : Bool) → Recorded part t cut → Recorded part t true
-recorded-moves (FromSource source ops outs) t cut r = r
-recorded-moves (FromLinks op ops outs) t cut r = record { named = r.named; found = r.found; in_time = r.in_time; all = λ c. absurd (cc) }
-recorded-moves (Splitter region) t cut r = r
-recorded-moves (Replica region channel) t cut r = r
-recorded-moves (Merger region outs) t cut r = r
+use Rattle.network_model.proofs.ElementLists.{recorded-moves}
 
 -- ---- what was sent
 

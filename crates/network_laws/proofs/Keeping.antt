@@ -1,77 +1,35 @@
 -- What every legal list of events keeps of each element by itself.
-use Rattle.std.proofs.Common.{ℕ, ◌≤◌, Bool, true, false, cond, List, [], ◌∷◌, ◌++◌, ◌≡◌, refl, sym, ap, ◌∙◌, append_assoc, append-nil, drop}
-use Rattle.stream_model.specs.Stream.{IsPrefix}
+use Rattle.std.proofs.Common.{ℕ, ◌≤◌, Bool, true, false, cond, List, [], ◌∷◌, ◌++◌, ◌≡◌, refl, sym, ap, ◌∙◌, append_assoc, append-nil}
 use Rattle.stream_model.specs.declared.outgoing.Outgoing.{Outgoing}
 use Rattle.network_model.specs.Packets.{is_stream}
-use Rattle.network_model.specs.Networks.{Part, FromSource, FromLinks, Splitter, Replica, Merger, inputs, outputs}
+use Rattle.network_model.specs.Networks.{Part, inputs, outputs}
 use Rattle.network_model.specs.Receipts.{Receipt, popped, read_in}
-use Rattle.network_model.specs.Owed.{owed, Binds, entries_of, taken_of, owed_for}
 use Rattle.network_model.specs.States.{At, all_taken, new_element, cuts_from, cut_off, drops, keeps, is_cut_receipt, takes, lacks, puts}
-use Rattle.network_model.specs.Joined.{taken_at}
-use Rattle.network_model.specs.PartLaws.{IsLess, IsPart, Merges}
-use Rattle.network_model.specs.Adds.{adds}
-use Rattle.network_model.proofs.Adds.{adds_law}
-use Rattle.network_model.proofs.Receipts.{popped-append, read_in-append, front-popped, found-here, taken-less}
+use Rattle.network_model.specs.ElementRule.{KeepsRule, TakesInRange}
+use Rattle.network_model.proofs.ElementRule.{rule-begins, rule-cuts, rule-puts, rule-takes}
+use Rattle.network_model.proofs.Receipts.{popped-append}
 
--- ---- what is kept and dropped
-
--- what is kept is less than with what was dropped
-pub taken-at : (part : Part) (a : At) → IsLess (taken_of part a.kept) (taken_at part a)
-taken-at part a = record {
-  packets = front-popped a.kept a.dropped;
-  items = (read_in a.dropped, sym (read_in-append a.kept a.dropped));
-  entries = ([], append-nil (entries_of part a.kept));
-  found = found-here part a.kept;
-}
-
--- ---- what an element keep
-
--- one that isn't cut has dropped nothing, and has pushed what it owes but for its outbox
-pub record KeepsWhole (part : Part) (a : At) : Type 0 where
-  pub nothing_dropped : a.dropped ≡ []
-  pub owes : Binds part (taken_of part a.kept) → a.pushed ++ a.outbox ≡ owed_for part a.kept
-
--- one that is cut had pushed a front of it, and then owes `Cut` where neither `Close` nor `Cut` was pushed
-pub record KeepsCut (part : Part) (a : At) : Type 0 where
-  pub front : List Outgoing
-  pub is_front : Binds part (taken_of part a.kept) → IsPrefix front (owed_for part a.kept)
-  pub owes : a.pushed ++ a.outbox ≡ front ++ cuts_from 0 (outputs part) front
+-- ---- what an element keeps
 
 pub record KeepsElement (part : Part) (a : At) : Type 0 where
-  pub whole : a.cut ≡ false → KeepsWhole part a
-  pub off : a.cut ≡ true → KeepsCut part a
-  pub in_range : (i : ℕ) → inputs part ≤ i → popped i (all_taken a) ≡ []
+  pub rule : KeepsRule part a
+  pub range : TakesInRange part a
   pub streams : is_stream (read_in (all_taken a)) ≡ true
 
-pub keep-new : (part : Part) → IsPart part → KeepsElement part new_element
-keep-new part laws = record {
-  whole = λ c. record { nothing_dropped = refl; owes = λ b. sym (none part laws) };
-  off = λ c. absurd (cc);
-  in_range = λ i le. refl;
+pub keep-new : (part : Part) → KeepsElement part new_element
+keep-new part = record {
+  rule = rule-begins part;
+  range = record { in_range = λ i le. refl; none_dropped = λ c. refl };
   streams = refl;
 }
-  where
-    no_entries : (part : Part) → entries_of part [] ≡ []
-    no_entries (FromSource source ops outs) = refl
-    no_entries (FromLinks op ops outs) = refl
-    no_entries (Splitter region) = refl
-    no_entries (Replica region channel) = refl
-    no_entries (Merger region outs) = refl
-
-    none : (part : Part) → IsPart part → owed_for part [] ≡ []
-    none part laws = ap (λ entries. owed part (record { packets = λ i. []; items = []; entries = entries })) (no_entries part) ∙ laws.begins
 
 -- what it pushes leaves it so
 pub keep-puts : (part : Part) (a : At) (s : Outgoing) (others : List Outgoing) → a.outbox ≡ s ∷ others → KeepsElement part a → KeepsElement part (puts a s)
 keep-puts part a s others o k = record {
-  whole = λ c. record { nothing_dropped = (k.whole c).nothing_dropped; owes = λ b. same ∙ (k.whole c).owes b };
-  off = λ c. record { front = (k.off c).front; is_front = (k.off c).is_front; owes = same ∙ (k.off c).owes };
-  in_range = k.in_range;
+  rule = rule-puts part a s others o k.rule;
+  range = record { in_range = k.range.in_range; none_dropped = k.range.none_dropped };
   streams = k.streams;
 }
-  where
-    same : (a.pushed ++ s ∷ []) ++ drop 1 a.outbox ≡ a.pushed ++ a.outbox
-    same = append_assoc a.pushed (s ∷ []) (drop 1 a.outbox) ∙ ap (λ z. a.pushed ++ s ∷ drop 1 z) o ∙ ap (λ z. a.pushed ++ z) (sym o)
 
 -- ---- what it takes
 
@@ -80,87 +38,57 @@ pub record IsFair (part : Part) (a : At) (taken : Receipt) : Type 0 where
   pub in_range : (i : ℕ) → inputs part ≤ i → popped i (taken ∷ []) ≡ []
   pub streams : is_stream (read_in (all_taken a ++ taken ∷ [])) ≡ true
 
+-- an element whose lists are those of another, and which has taken something more
+pub record TakesMore (a : At) (taken : Receipt) (b : At) : Type 0 where
+  pub all : all_taken b ≡ all_taken a ++ taken ∷ []
+  pub none : b.cut ≡ false → b.dropped ≡ []
+
+keep-more : (part : Part) (a b : At) (taken : Receipt) → KeepsRule part b → TakesMore a taken b → IsFair part a taken → KeepsElement part a → KeepsElement part b
+keep-more part a b taken rule more f k = record {
+  rule = rule;
+  range = record {
+    in_range = λ i le. ap (popped i) more.all ∙ popped-append i (all_taken a) (taken ∷ []) ∙ ap (λ z. z ++ popped i (taken ∷ [])) (k.range.in_range i le) ∙ f.in_range i le;
+    none_dropped = more.none;
+  };
+  streams = ap (λ T. is_stream (read_in T)) more.all ∙ f.streams;
+}
+
 taken-append : (a : At) (taken : Receipt) → a.kept ++ (a.dropped ++ taken ∷ []) ≡ all_taken a ++ taken ∷ []
 taken-append a taken = sym (append_assoc a.kept a.dropped (taken ∷ []))
-
-range-more : (part : Part) (T : List Receipt) (taken : Receipt) → ((i : ℕ) → inputs part ≤ i → popped i T ≡ []) → ((i : ℕ) → inputs part ≤ i → popped i (taken ∷ []) ≡ [])
-    → (i : ℕ) → inputs part ≤ i → popped i (T ++ taken ∷ []) ≡ []
-range-more part T taken k f i le = popped-append i T (taken ∷ []) ∙ ap (λ z. z ++ popped i (taken ∷ [])) (k i le) ∙ f i le
-
--- an element that is cut or that lacks memory has dropped it
-keep-drops : (part : Part) (a : At) (taken : Receipt) → a.cut ≡ true → IsFair part a taken → KeepsElement part a → KeepsElement part (drops a taken)
-keep-drops part a taken is f k = record {
-  whole = λ c. let clash : true ≡ false = sym is ∙ c in absurd (cc);
-  off = λ c. record { front = (k.off c).front; is_front = (k.off c).is_front; owes = (k.off c).owes };
-  in_range = λ i le. ap (popped i) (taken-append a taken) ∙ range-more part (all_taken a) taken k.in_range f.in_range i le;
-  streams = ap (λ T. is_stream (read_in T)) (taken-append a taken) ∙ f.streams;
-}
-
-pub cut-now : (part : Part) (kept dropped : List Receipt) (pushed : List Outgoing) → (Binds part (taken_of part kept) → IsPrefix pushed (owed_for part kept))
-    → ((i : ℕ) → inputs part ≤ i → popped i (kept ++ dropped) ≡ []) → is_stream (read_in (kept ++ dropped)) ≡ true
-    → KeepsElement part (record { kept = kept; dropped = dropped; pushed = pushed; outbox = cuts_from 0 (outputs part) pushed; cut = true })
-cut-now part kept dropped pushed p r s = record {
-  whole = λ c. absurd (cc);
-  off = λ c. record { front = pushed; is_front = p; owes = refl };
-  in_range = r;
-  streams = s;
-}
-
-pushed-front : (part : Part) (a : At) → a.cut ≡ false → KeepsElement part a → Binds part (taken_of part a.kept) → IsPrefix a.pushed (owed_for part a.kept)
-pushed-front part a c k b = (a.outbox, (k.whole c).owes b)
-
-pub keep-cut_off : (part : Part) (a : At) → KeepsElement part a → KeepsElement part (cut_off part a)
-keep-cut_off part a k = go a.cut refl
-  where
-    go : (b : Bool) → a.cut ≡ b → KeepsElement part (cond b a (record { kept = a.kept; dropped = a.dropped; pushed = a.pushed; outbox = cuts_from 0 (outputs part) a.pushed; cut = true }))
-    go true c = k
-    go false c = cut-now part a.kept a.dropped a.pushed (pushed-front part a c k) k.in_range k.streams
-
-pub keep-lacks : (part : Part) (a : At) (taken : Receipt) → IsFair part a taken → KeepsElement part a → KeepsElement part (lacks part a taken)
-keep-lacks part a taken f k = go a.cut refl
-  where
-    go : (b : Bool) → a.cut ≡ b
-        → KeepsElement part (cond b (drops a taken) (record { kept = a.kept; dropped = a.dropped ++ taken ∷ []; pushed = a.pushed; outbox = cuts_from 0 (outputs part) a.pushed; cut = true }))
-    go true c = keep-drops part a taken c f k
-    go false c = cut-now part a.kept (a.dropped ++ taken ∷ []) a.pushed (pushed-front part a c k)
-        (λ i le. ap (popped i) (taken-append a taken) ∙ range-more part (all_taken a) taken k.in_range f.in_range i le)
-        (ap (λ T. is_stream (read_in T)) (taken-append a taken) ∙ f.streams)
 
 kept-all : (a : At) (taken : Receipt) → a.dropped ≡ [] → (a.kept ++ taken ∷ []) ++ a.dropped ≡ all_taken a ++ taken ∷ []
 kept-all a taken none =
     ap (λ z. (a.kept ++ taken ∷ []) ++ z) none ∙ append-nil (a.kept ++ taken ∷ [])
     ∙ ap (λ z. z ++ taken ∷ []) (sym (append-nil a.kept)) ∙ ap (λ z. (a.kept ++ z) ++ taken ∷ []) (sym none)
 
-merges : (part : Part) (T : List Receipt) → Binds part (taken_of part T) → Merges part T
-merges (FromSource source ops outs) T b = tt
-merges (FromLinks op ops outs) T b = tt
-merges (Splitter region) T b = tt
-merges (Replica region channel) T b = tt
-merges (Merger region outs) T b = b
-
-keep-keeps : (part : Part) (a : At) (taken : Receipt) → IsPart part → a.cut ≡ false → a.outbox ≡ [] → IsFair part a taken → KeepsElement part a → KeepsElement part (keeps part a taken)
-keep-keeps part a taken laws c idle f k = record {
-  whole = λ d. record { nothing_dropped = none; owes = owes };
-  off = λ d. let clash : false ≡ true = sym c ∙ d in absurd (cc);
-  in_range = λ i le. ap (popped i) (kept-all a taken none) ∙ range-more part (all_taken a) taken k.in_range f.in_range i le;
-  streams = ap (λ T. is_stream (read_in T)) (kept-all a taken none) ∙ f.streams;
-}
+pub keep-cut_off : (part : Part) (a : At) → KeepsElement part a → KeepsElement part (cut_off part a)
+keep-cut_off part a k = go a.cut (rule-cuts part a k.rule)
   where
-    none : a.dropped ≡ []
-    none = (k.whole c).nothing_dropped
+    off : At
+    off = record { kept = a.kept; dropped = a.dropped; pushed = a.pushed; outbox = cuts_from 0 (outputs part) a.pushed; cut = true }
 
-    owes : Binds part (taken_of part (a.kept ++ taken ∷ [])) → a.pushed ++ (a.outbox ++ adds part a.kept taken) ≡ owed_for part (a.kept ++ taken ∷ [])
-    owes b =
-        let less : IsLess (taken_of part a.kept) (taken_of part (a.kept ++ taken ∷ [])) = taken-less part a.kept (taken ∷ []) in
-        let before : Binds part (taken_of part a.kept) = laws.binds (taken_of part a.kept) (taken_of part (a.kept ++ taken ∷ [])) less b in
-        sym (append_assoc a.pushed a.outbox (adds part a.kept taken))
-        ∙ ap (λ z. z ++ adds part a.kept taken) ((k.whole c).owes before)
-        ∙ sym (adds_law part a.kept taken (merges part (a.kept ++ taken ∷ []) b))
+    go : (b : Bool) → KeepsRule part (cond b a off) → KeepsElement part (cond b a off)
+    go true rule = k
+    go false rule = record { rule = rule; range = record { in_range = k.range.in_range; none_dropped = λ c. absurd (cc) }; streams = k.streams }
 
-pub keep-takes : (part : Part) (a : At) (taken : Receipt) → IsPart part → a.outbox ≡ [] → IsFair part a taken → KeepsElement part a → KeepsElement part (takes part a taken)
-keep-takes part a taken laws idle f k = go a.cut (is_cut_receipt taken) refl
+cuts-more : (part : Part) (a : At) (taken : Receipt) → TakesMore a taken (lacks part a taken)
+cuts-more part a taken = go a.cut refl
   where
-    go : (b d : Bool) → a.cut ≡ b → KeepsElement part (cond b (drops a taken) (cond d (cut_off part (drops a taken)) (keeps part a taken)))
-    go true d c = keep-drops part a taken c f k
-    go false true c = keep-lacks part a taken f k
-    go false false c = keep-keeps part a taken laws c idle f k
+    go : (b : Bool) → a.cut ≡ b
+        → TakesMore a taken (cond b (drops a taken) (record { kept = a.kept; dropped = a.dropped ++ taken ∷ []; pushed = a.pushed; outbox = cuts_from 0 (outputs part) a.pushed; cut = true }))
+    go true c = record { all = taken-append a taken; none = λ d. let clash : true ≡ false = sym c ∙ d in absurd (cc) }
+    go false c = record { all = taken-append a taken; none = λ d. absurd (cc) }
+
+pub keep-lacks : (part : Part) (a : At) (taken : Receipt) → IsFair part a taken → KeepsElement part a → KeepsElement part (lacks part a taken)
+keep-lacks part a taken f k = keep-more part a (lacks part a taken) taken (rule-takes part a taken k.rule).1 (cuts-more part a taken) f k
+
+takes-more : (part : Part) (a : At) (taken : Receipt) → (a.cut ≡ false → a.dropped ≡ []) → TakesMore a taken (takes part a taken)
+takes-more part a taken none = go a.cut (is_cut_receipt taken) refl
+  where
+    go : (b d : Bool) → a.cut ≡ b → TakesMore a taken (cond b (drops a taken) (cond d (cut_off part (drops a taken)) (keeps part a taken)))
+    go true d c = record { all = taken-append a taken; none = λ e. let clash : true ≡ false = sym c ∙ e in absurd (cc) }
+    go false true c = cuts-more part a taken
+    go false false c = record { all = kept-all a taken (none c); none = none }
+
+pub keep-takes : (part : Part) (a : At) (taken : Receipt) → IsFair part a taken → KeepsElement part a → KeepsElement part (takes part a taken)
+keep-takes part a taken f k = keep-more part a (takes part a taken) taken (rule-takes part a taken k.rule).0 (takes-more part a taken k.range.none_dropped) f k

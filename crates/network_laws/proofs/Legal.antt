@@ -70,7 +70,7 @@ takes-lists part a taken k = go a.cut (is_cut_receipt taken) refl
   where
     kept : a.cut ≡ false → all_taken (keeps part a taken) ≡ all_taken a ++ taken ∷ []
     kept c =
-        let none : a.dropped ≡ [] = (k.whole c).nothing_dropped in
+        let none : a.dropped ≡ [] = k.range.none_dropped c in
         ap (λ z. (a.kept ++ taken ∷ []) ++ z) none ∙ append-nil (a.kept ++ taken ∷ [])
         ∙ ap (λ z. z ++ taken ∷ []) (sym (append-nil a.kept)) ∙ ap (λ z. (a.kept ++ z) ++ taken ∷ []) (sym none)
 
@@ -153,7 +153,7 @@ one-stream x = go (closes x)
 fair-read : (part : Part) (a : At) (x : Item) → a.cut ≡ false → any_closes (read_in a.kept) ≡ false → KeepsElement part a → IsFair part a (WasRead x)
 fair-read part a x c open_list k = record {
   in_range = λ i le. refl;
-  streams = ap (λ T. is_stream (read_in (T ++ WasRead x ∷ []))) (ap (λ z. a.kept ++ z) (k.whole c).nothing_dropped ∙ append-nil a.kept)
+  streams = ap (λ T. is_stream (read_in (T ++ WasRead x ∷ []))) (ap (λ z. a.kept ++ z) (k.range.none_dropped c) ∙ append-nil a.kept)
       ∙ ap is_stream (read_in-append a.kept (WasRead x ∷ [])) ∙ is_stream-append (read_in a.kept) (x ∷ []) open_list ∙ one-stream x;
 }
 
@@ -204,7 +204,7 @@ keep-cut net st e k =
 
 pub keep-begin : (net : Net) → IsNet net → NetKeeps net begin
 keep-begin net is = record {
-  elements = λ e lt. keep-new (net.part e) (is.parts e lt);
+  elements = λ e lt. keep-new (net.part e);
   links = λ l lt. record { waiting = []; are = refl };
 }
 
@@ -212,14 +212,14 @@ pub keep-after : (net : Net) (st : State) (h : Occurrence) → IsNet net → May
 keep-after net st (Happens (Read e x)) is may k =
     let here : KeepsElement (net.part e) (st e) = k.elements e may.element in
     keep-read net st e x (takes (net.part e) (st e) (WasRead x))
-    (keep-takes (net.part e) (st e) (WasRead x) (is.parts e may.element) may.idle (fair-read (net.part e) (st e) x may.whole may.is_open here) here)
+    (keep-takes (net.part e) (st e) (WasRead x) (fair-read (net.part e) (st e) x may.whole may.is_open here) here)
     (takes-lists (net.part e) (st e) (WasRead x) here) k
 keep-after net st (Happens (Pop l p)) is may k =
     let e : ℕ = (net.link l).to in
     let taken : Receipt = Popped (net.link l).input p in
     let here : KeepsElement (net.part (net.link l).to) (st (net.link l).to) = k.elements (net.link l).to (is.within l may.link) in
     keep-pop net st l p (takes (net.part e) (st e) taken) is may
-    (keep-takes (net.part e) (st e) taken (is.parts e (is.within l may.link)) may.idle (fair-pop net st l p is may.link here) here)
+    (keep-takes (net.part e) (st e) taken (fair-pop net st l p is may.link here) here)
     (takes-lists (net.part e) (st e) taken here) k
 keep-after net st (Happens (Push l p)) is may k = keep-push net st l p is may k
 keep-after net st (Lacks (Read e x)) is may k =

@@ -16,7 +16,7 @@ use Rattle.network_model.proofs.Packets.{front-map}
 use Rattle.network_model.proofs.Chains.{front-gives_all, front-passed, front-arrive}
 use Rattle.network_model.proofs.Adds.{for_sink-append}
 use Rattle.network_laws.specs.JoinedLaws.{PouredLaw}
-use Rattle.network_laws.proofs.Keeping.{taken-at}
+use Rattle.network_model.proofs.ElementLists.{taken-at}
 
 for_sink-front : (last : Operator) (a b : List Output) → IsPrefix a b → IsPrefix (for_sink last a) (for_sink last b)
 for_sink-front last a b p = (for_sink last p.0, sym (for_sink-append last a p.0) ∙ ap (for_sink last) p.1)

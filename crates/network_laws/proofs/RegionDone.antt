@@ -28,11 +28,11 @@ use Rattle.network_model.proofs.Merging.{merged-front}
 use Rattle.network_model.proofs.RegionParts.{on_output-map, replies-none, without_cut-none, clean, merged-clean, replies-stop, split-stops, split-without_cut}
 use Rattle.network_laws.specs.RegionLaws.{HasRegionLaw, RegionObeys, RegionsObey, entered, has_left, IsRegionDone, LegalRegionLaw, DoneRegionLaw}
 use Rattle.network_laws.proofs.Joining.{wired-net}
-use Rattle.network_laws.proofs.Keeping.{KeepsWhole, taken-at}
+use Rattle.network_model.proofs.ElementLists.{all-pushed, taken-at}
+use Rattle.network_model.proofs.ElementRule.{binds-merges}
 use Rattle.network_laws.proofs.Legal.{LinkKeeps, NetKeeps, keep-begin, keep-all}
-use Rattle.network_laws.proofs.Ending.{all-pushed}
 use Rattle.network_laws.proofs.RegionSends.{region_moment_law, both-fronts, closed-cut, cut-is-front}
-use Rattle.network_laws.proofs.Propers.{stops-stream}
+use Rattle.network_model.proofs.Propers.{stops-stream}
 use Rattle.network_laws.proofs.Bound.{progress, binds-at, splitter-of, replica-of, SplitterOf, ReplicaOf, from-below}
 
 -- ---- streams on links
@@ -138,7 +138,7 @@ module _ (g : Graph) (net : Net) (list : List Occurrence) (region : RegionPart) 
 
   -- who is done has pushed all that it owes
   pushed-all : (x o : ℕ) → x < net.size → IsDone (net.part x) (st x) → on_output o (st x).pushed ≡ on_output o (owed (net.part x) (taken_at (net.part x) (st x)))
-  pushed-all x o lt h = all-pushed (net.part x) (st x) (is_net.parts x lt) (k.elements x lt) h (whole x lt) (binds x lt) o
+  pushed-all x o lt h = all-pushed (net.part x) (st x) (is_net.parts x lt) (k.elements x lt).rule (k.elements x lt).range h (whole x lt) (binds x lt) o
 
   -- and between two that are done all that was pushed was popped
   popped-all : (l x y i o : ℕ) → l < net.links → (net.link l).from ≡ x → (net.link l).to ≡ y → (net.link l).output ≡ o → (net.link l).input ≡ i → x < net.size → y < net.size → i < inputs (net.part y)
@@ -189,14 +189,14 @@ module _ (g : Graph) (net : Net) (list : List Occurrence) (region : RegionPart) 
           let laws : IsPart (net.part (net.link l).from) = (wired-net g net wired).parts (net.link l).from below in
           let b : Binds (net.part (net.link l).from) (taken_of (net.part (net.link l).from) (reached net list (net.link l).from).kept) =
           laws.binds (taken_of part a.kept) (taken_at part a) (taken-at part a) (binds (net.link l).from below) in
-          let w : KeepsWhole (net.part (net.link l).from) (reached net list (net.link l).from) = (k.elements (net.link l).from below).whole (whole (net.link l).from below) in
+          let all : (reached net list (net.link l).from).pushed ++ (reached net list (net.link l).from).outbox ≡ owed_for (net.part (net.link l).from) (reached net list (net.link l).from).kept = (k.elements (net.link l).from below).rule.whole (whole (net.link l).from below) (binds-merges part a.kept b) in
           let X = carried-packets (net.part (net.link l).from) (net.link l).output s (taken_of (net.part (net.link l).from) (reached net list (net.link l).from).kept) carried in
           let got : List Packet = popped 0 (all_taken (reached net list d)) in
           let c : LinkKeeps (net.link l) (reached net list) = k.links l lt in
           let went : IsPrefix (popped 0 (all_taken (reached net list d))) (on_output (net.link l).output (reached net list (net.link l).from).pushed) =
           (c.waiting, sym (c.are ∙ (λ j. popped (input j) (all_taken (reached net list (to j))) ++ c.waiting))) in
           let owes : IsPrefix (on_output (net.link l).output (reached net list (net.link l).from).pushed) (on_output (net.link l).output (owed_for (net.part (net.link l).from) (reached net list (net.link l).from).kept)) =
-          front-on_output o a.pushed (owed_for part a.kept) (a.outbox, w.owes b) in
+          front-on_output o a.pushed (owed_for part a.kept) (a.outbox, all) in
           let front : IsPrefix (popped 0 (all_taken (reached net list d))) (packets_of X.0) =
           front-trans got (on_output o a.pushed) (packets_of X.0) went (front-left (on_output o a.pushed) (on_output o a.pushed) (packets_of X.0) (on_output o (owed_for part a.kept)) refl (sym X.1) owes) in
           let last : has_last (popped 0 (all_taken (reached net list d))) ≡ true =

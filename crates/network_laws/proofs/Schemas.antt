@@ -22,7 +22,8 @@ use Rattle.pe_fusion.specs.FusedNets.{region_part}
 use Rattle.pe_fusion.proofs.Checked.{fits_law}
 use Rattle.network_laws.specs.Propers.{HasSchema}
 use Rattle.network_laws.specs.PlannedLaws.{RunsPlan}
-use Rattle.network_laws.specs.SchemaLaws.{SchemaOn, RunsProper}
+use Rattle.network_model.specs.OutputSchemas.{SchemaOn}
+use Rattle.network_laws.specs.SchemaLaws.{RunsProper}
 use Rattle.network_laws.proofs.Joining.{wired-net}
 use Rattle.network_laws.proofs.Planned.{region-of, runs_hold}
 use Rattle.network_laws.proofs.Propers.{stream_proper}

@@ -8,3 +8,6 @@ pub mod Parts
 pub mod Receipts
 pub mod Adds
 pub mod Fans
+pub mod ElementRule
+pub mod ElementLists
+pub mod Propers

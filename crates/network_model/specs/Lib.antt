@@ -13,3 +13,5 @@ pub mod Flow
 pub mod Draws
 pub mod Picking
 pub mod PartLaws
+pub mod ElementRule
+pub mod OutputSchemas

@@ -2,6 +2,7 @@
 //! runs a graph.
 #![tactic(auto)]
 
+ghost use Rattle.network_model.specs.ElementRule.{BeginsLaw, CutsLaw, DoneLaw, MovesLaw, PutsLaw, TakesLaw};
 ghost use Rattle.network_model.specs.PartLaws.{AddsLaw, FansLaw, NothingLaw, PartLaw, PoursLaw, ReceiptsLaw};
 
 /// Chains, splitters, replicas and mergers owe nothing for nothing and more for more, never `Cut`, and on each output
@@ -21,4 +22,18 @@ pub fn receipts_law()
 /// What a chain or a merger sends, by the number of connections of each output port.
 pub fn fans_law()
     ensures fans { FansLaw }
+{}
+
+/// Each step of an element keeps its rule: it takes something, with memory or without, puts a packet, or is cut.
+pub fn rule_law()
+    ensures begins { BeginsLaw }
+    ensures takes { TakesLaw }
+    ensures puts { PutsLaw }
+    ensures cuts { CutsLaw }
+{}
+
+/// By its rule the lists of an element are in progress at any moment, and joined where it is done.
+pub fn element_law()
+    ensures moves { MovesLaw }
+    ensures done { DoneLaw }
 {}
