@@ -1,5 +1,5 @@
 -- A chain and one item more.
-use Rattle.std.proofs.Common.{ℕ, Bool, true, false, cond, List, [], ◌∷◌, ◌++◌, ◌≡◌, ◌+◌, suc, map, length, Option, None, Some, refl, sym, ap, ◌∙◌, subst, append-nil}
+use Rattle.std.proofs.Common.{ℕ, Bool, true, false, cond, List, [], ◌∷◌, ◌++◌, ◌≡◌, ◌⊎◌, inl, inr, ◌+◌, suc, map, length, Option, None, Some, refl, sym, ap, ◌∙◌, subst, append-nil}
 use Rattle.spl_value.specs.declared.item.Item.{Item}
 use Rattle.spl_value.specs.declared.item.Item.TheVariants as I
 use Rattle.spl_value.specs.declared.packet.Packet.TheVariants as P
@@ -15,10 +15,12 @@ use Rattle.stream_model.specs.Stream.{Event, came, is_empty}
 use Rattle.stream_model.proofs.ChainParts.{chain_after-append, stages_passed-append}
 use Rattle.std.proofs.lemmas.List.{map-append}
 use Rattle.network_model.specs.Adds.{adds, gives_more}
-use Rattle.network_model.specs.Networks.{Part, FromSource, FromLinks, Splitter, Replica, Merger}
+use Rattle.network_model.specs.Networks.{Part, FromSource, FromLinks, Splitter, Replica, Merger, last_of}
 use Rattle.network_model.specs.Owed.{send_all}
 use Rattle.network_model.specs.Receipts.{Receipt, Popped, WasRead, item_events, read_in}
-use Rattle.network_model.specs.Sinks.{pours_more}
+use Rattle.network_model.specs.PartLaws.{Merges}
+use Rattle.network_model.specs.Sinks.{for_sink, is_sink, pours_more}
+use Rattle.network_model.proofs.Adds.{given-more}
 use Rattle.network_model.proofs.Fans.{fans_law}
 use Rattle.network_model.proofs.Receipts.{item_events-append, read_in-append}
 use Rattle.operator_chains.specs.declared.chain.Chain.{Chain}
@@ -28,7 +30,7 @@ use Rattle.element_outboxes.specs.Waiting.{all_out, fans_from, waits}
 use Rattle.element_outboxes.specs.declared.fan.Fan.{Fan}
 use Rattle.element_outboxes.specs.declared.outbox.Outbox.{Outbox}
 use Rattle.element_works.specs.Tuples.{for_writer, sink_waits, standing_at}
-use Rattle.element_works.specs.Works.{ChainAt, HasFans, HasTakenItem, IsEvent, stages_at}
+use Rattle.element_works.specs.Works.{ChainAt, HasFans, HasTakenItem, IsEvent, IsSilent, stages_at}
 use Rattle.element_works.specs.declared.tuples.Tuples.{Tuples}
 
 -- ---- what is given
@@ -106,9 +108,23 @@ adds-is (Splitter region) counts T r h = absurd h
 adds-is (Replica region channel) counts T r h = absurd h
 adds-is (Merger region outs) counts T r h = absurd h
 
+-- a sink is given all that a chain without fans gives, and one that is silent gives nothing
+writes : (part : Part) (last : Operator) (counts : List ℕ) (T : List Receipt) (r : Receipt) → Merges part (T ++ r ∷ []) → (is_sink last.clauses ≡ is_empty counts) ⊎ IsSilent part
+    → for_sink last (gives_more part T r) ≡ cond (is_empty counts) (for_writer (gives_more part T r)) []
+writes part last counts T r m (inl e) = ap (λ b. cond b (for_writer (gives_more part T r)) []) e
+writes part last counts T r m (inr silent) =
+    ap (for_sink last) none ∙ same (is_sink last.clauses) ∙ sym (ap (λ outs. cond (is_empty counts) (for_writer outs) []) none ∙ same (is_empty counts))
+  where
+    none : gives_more part T r ≡ []
+    none = ap (λ outs. outs ++ gives_more part T r) (sym (silent T)) ∙ sym (given-more part T r m) ∙ silent (T ++ r ∷ [])
+
+    same : (b : Bool) → cond {A = List (List Value)} b [] [] ≡ []
+    same true = refl
+    same false = refl
+
 pours-is : (part : Part) (counts : List ℕ) (T : List Receipt) (r : Receipt) → HasFans part counts → pours_more part T r ≡ cond (is_empty counts) (for_writer (gives_more part T r)) []
-pours-is (FromSource source ops outs) counts T r h = ap (λ b. cond b (for_writer (gives_more (FromSource source ops outs) T r)) []) h.1
-pours-is (FromLinks op ops outs) counts T r h = ap (λ b. cond b (for_writer (gives_more (FromLinks op ops outs) T r)) []) h.1
+pours-is (FromSource source ops outs) counts T r h = writes (FromSource source ops outs) (last_of source ops) counts T r tt h.1
+pours-is (FromLinks op ops outs) counts T r h = writes (FromLinks op ops outs) (last_of op ops) counts T r tt h.1
 pours-is (Splitter region) counts T r h = absurd h
 pours-is (Replica region channel) counts T r h = absurd h
 pours-is (Merger region outs) counts T r h = absurd h

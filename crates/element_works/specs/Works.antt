@@ -1,5 +1,5 @@
 -- For what the work of an element stands: its operators, its splitter.
-use Rattle.std.specs.Prelude.{ℕ, ◌≡◌, ◌<◌, ◌≤◌, ◌^◌, ◌%◌, ◌==◌, ◌&&◌, if◌then◌else◌, Bool, List, [], ◌∷◌, ◌++◌, map, length}
+use Rattle.std.specs.Prelude.{ℕ, ◌≡◌, ◌⊎◌, ◌<◌, ◌≤◌, ◌^◌, ◌%◌, ◌==◌, ◌&&◌, if◌then◌else◌, Bool, List, [], ◌∷◌, ◌++◌, map, length}
 use Rattle.hash_splitter.specs.Splitting.{Splitting}
 use Rattle.spl_value.specs.declared.item.Item.{Item}
 use Rattle.spl_value.specs.declared.packet.Packet.{Packet}
@@ -16,6 +16,7 @@ use Rattle.stream_model.specs.Stream.{Event, came, is_empty}
 use Rattle.stream_model.specs.declared.outgoing.Outgoing.{Outgoing}
 use Rattle.network_model.specs.Adds.{adds}
 use Rattle.network_model.specs.Networks.{Part, RegionPart, FromSource, FromLinks, Splitter, Replica, Merger, last_of}
+use Rattle.network_model.specs.Owed.{given, taken_of}
 use Rattle.network_model.specs.Packets.{items_in}
 use Rattle.network_model.specs.Receipts.{Receipt, Popped, WasRead, item_events, popped, read_in}
 use Rattle.network_model.specs.Sinks.{is_sink, pours_more}
@@ -43,10 +44,18 @@ IsEvent (FromSource source ops outs) (WasRead x) i item = (i ≡ 0) × (x ≡ it
 IsEvent (FromLinks op ops outs) (Popped j (P.Item number x)) i item = (j ≡ i) × (x ≡ item)
 IsEvent part receipt i item = ⊥
 
--- the outputs of a chain, whose last operator has so many connections at each port; only a sink has no port
+-- its last operator gives nothing, whatever is taken
+abbrev pub IsSilent : Part → Type 0
+IsSilent part = (receipts : List Receipt) → given part (taken_of part receipts) ≡ []
+
+-- the outputs of a chain, whose last operator has so many connections at each port; one without a port is a sink, or it
+-- gives nothing
 abbrev pub HasFans : Part → List ℕ → Type 0
-HasFans (FromSource source ops outs) counts = (outs ≡ ports_of_fans counts) × (is_sink (last_of source ops).clauses ≡ is_empty counts)
-HasFans (FromLinks op ops outs) counts = (outs ≡ ports_of_fans counts) × (is_sink (last_of op ops).clauses ≡ is_empty counts)
+HasFans (FromSource source ops outs) counts =
+    (outs ≡ ports_of_fans counts)
+    × ((is_sink (last_of source ops).clauses ≡ is_empty counts) ⊎ IsSilent (FromSource source ops outs))
+HasFans (FromLinks op ops outs) counts =
+    (outs ≡ ports_of_fans counts) × ((is_sink (last_of op ops).clauses ≡ is_empty counts) ⊎ IsSilent (FromLinks op ops outs))
 HasFans (Splitter region) counts = ⊥
 HasFans (Replica region channel) counts = ⊥
 HasFans (Merger region outs) counts = ⊥
