@@ -78,7 +78,7 @@ total-ones : (ops : List Operator) → total (λ (o : Operator). 1) ops ≡ leng
 total-ones [] = refl
 total-ones (op ∷ ops) = let rest = total-ones ops in let z : 1 + total (λ (o : Operator). 1) ops ≡ suc (length ops) = omega (arith, rest) in z
 
-last-get : (op : Operator) (ops : List Operator) → slice_get (numbers (op ∷ ops)) (length (numbers ops)) ≡ Some (last_of op ops).number
+pub last-get : (op : Operator) (ops : List Operator) → slice_get (numbers (op ∷ ops)) (length (numbers ops)) ≡ Some (last_of op ops).number
 last-get op [] = refl
 last-get op (next ∷ ops) = last-get next ops
 
@@ -100,7 +100,7 @@ numbers-of ops own (n ∷ ns) there =
     ∙ ap (λ m. m ∷ numbers (filter_map (slice_get ops) ns)) (own n o.0 o.1)
     ∙ ap (λ ms. n ∷ ms) (numbers-of ops own ns (λ m h. there m (contains_later n m ns h)))
 
-all-connections : (c : CheckedGraph) (n : ℕ) (ops : List Op) (parts : List CheckedClauses) → length parts ≡ length ops
+pub all-connections : (c : CheckedGraph) (n : ℕ) (ops : List Op) (parts : List CheckedClauses) → length parts ≡ length ops
     → length (concat (map connections (operators_from c n ops parts))) ≡ sum_by (λ (op : Op). sum_by length op.ins) ops
 all-connections c n [] parts same = refl
 all-connections c n (op ∷ ops) [] same = absurd (let k : 0 ≡ suc (length ops) = same in omega (arith, k))

@@ -221,7 +221,7 @@ cut_ends (x ∷ xs) = go (closes x) refl (cut_ends xs) where
 -- ---- regions
 
 -- what a replica of a chain sends for packets that are proper
-replies_proper : (op : Operator) (ops : List Operator) (packets : List Packet) → AllByRecursion IsMember (op ∷ ops) → AreTyped (op ∷ ops)
+pub replies_proper : (op : Operator) (ops : List Operator) (packets : List Packet) → AllByRecursion IsMember (op ∷ ops) → AreTyped (op ∷ ops)
     → IsProper (input_attributes op 0) packets → IsProper (exit_schema (op ∷ ops)) (replies (map start (op ∷ ops)) packets)
 replies_proper op ops packets ms typed proper = record {
   fit = ap (list_all (λ (p : Tagged). item_fits (exit_schema (op ∷ ops)) p.1)) given
@@ -237,7 +237,7 @@ replies_proper op ops packets ms typed proper = record {
   given : items_of (replies (map start (op ∷ ops)) packets) ≡ replica (op ∷ ops) (items_of packets)
   given = items-replies (map start (op ∷ ops)) packets
 
-sends_proper : (schema : Attributes) (routing : Routing) (w : ℕ) (pulses : Bool) (d : ℕ) (xs : List Item) → d < w → list_all (item_fits schema) xs ≡ true
+pub sends_proper : (schema : Attributes) (routing : Routing) (w : ℕ) (pulses : Bool) (d : ℕ) (xs : List Item) → d < w → list_all (item_fits schema) xs ≡ true
     → IsProper schema (on_output d (splits routing w pulses 0 xs))
 sends_proper schema routing w pulses d xs lt h =
     let sent = (split_law routing w pulses xs d lt).0 in

@@ -1,0 +1,10 @@
+pub mod Operators
+pub mod NoPorts
+pub mod Silent
+pub mod Regions
+pub mod Routes
+pub mod Parts
+pub mod Fitting
+pub mod Merged
+pub mod Putting
+pub mod WorkedParts
