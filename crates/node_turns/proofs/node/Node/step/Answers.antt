@@ -1,0 +1,46 @@
+use Rattle.std.proofs.Common.{◌∙◌}
+use Rattle.node_turns.proofs.Keeps.{runs_after}
+use Rattle.node_turns.proofs.node.Node.step.Goals as goal
+
+pub read-requires : goal.read-requires
+read-requires g c =
+    let m = c.requires.runs.1.meets in
+    record {
+      runs = (
+        c.requires.runs.0,
+        record { meets = m; still = (c.in-Read.ensures.next c.requires.runs.0 m.a m.poured m.at).1 },
+      );
+    }
+
+pub pour-requires : goal.pour-requires
+pour-requires g c =
+    let m = c.requires.runs.1.meets in
+    record {
+      meets = (
+        c.requires.runs.0,
+        c.read.ensures.meets c.requires.runs.0
+            (record { meets = m; still = (c.in-Read.ensures.next c.requires.runs.0 m.a m.poured m.at).1 }),
+      );
+    }
+
+pub returns-in-Read-clause-runs : goal.returns-in-Read-clause-runs
+returns-in-Read-clause-runs g c part r =
+    let m = r.meets in
+    runs_after g.E.Machine.stands g.S.Source.gave g.S.Source.front g.S.Source.over g.K.Sink.took g.K.Sink.began
+    g.K.Sink.faults
+    part c.args.links.now.items c.args.self.now c.pour.new.self (c.pour.ensures.ends.0 ∙ c.read.ensures.ends.0)
+    (c.pour.ensures.ends.1 ∙ c.read.ensures.ends.1) r
+    (c.pour.ensures.meets part (c.read.ensures.meets part
+    (record { meets = m; still = (c.in-Read.ensures.next part m.a m.poured m.at).1 })))
+
+pub returns-in-Take-clause-runs : goal.returns-in-Take-clause-runs
+returns-in-Take-clause-runs g c part r =
+    let w = c.pull-taken.ensures.runs part r in
+    runs_after g.E.Machine.stands g.S.Source.gave g.S.Source.front g.S.Source.over g.K.Sink.took g.K.Sink.began
+    g.K.Sink.faults
+    part c.args.links.now.items c.pull-taken.new.self c.pour-in-Take.new.self c.pour-in-Take.ensures.ends.0
+    c.pour-in-Take.ensures.ends.1 w (c.pour-in-Take.ensures.meets part w.meets)
+
+pub returns-in-Done-clause-done : goal.returns-in-Done-clause-done
+returns-in-Done-clause-done g c done part r =
+    record { runs = r; stopped = c.in-Done.ensures.next part r.meets.a r.meets.poured r.meets.at }

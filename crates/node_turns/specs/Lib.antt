@@ -1,0 +1,6 @@
+pub mod Notes
+pub mod Calls
+pub mod Taking
+pub mod Placed
+pub mod Meets
+pub mod Made
