@@ -1,0 +1,5 @@
+//! Groups of nodes, driven on threads and by the caller.
+#![tactic(auto)]
+
+#[cfg(test)]
+mod countdowns;
