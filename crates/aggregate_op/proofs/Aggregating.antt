@@ -50,15 +50,14 @@ use Rattle.stream_model.proofs.ContentMembers.{AllInserted, ItemIs, all_fired, a
 use Rattle.stream_model.proofs.FittingCodes.{tuples_env}
 use Rattle.stream_model.proofs.GroupTuples.{ArgumentsThere, arguments_there}
 use Rattle.stream_model.proofs.MappedWindows.{behind_law, mapped_firing_law}
-use Rattle.window_policy.specs.declared.window.Window.{Window}
-use Rattle.window_policy.specs.Answers.{IsAllowed}
-use Rattle.window_policy.specs.Standing.{Stands}
 use Rattle.port_reacts.specs.Bodies.{RepliesToItem}
 use Rattle.port_reacts.specs.PortReplies.{MayTakeAt, RepliesAt, WhereOut}
 use Rattle.port_reacts.proofs.Replying.{none_faulted, outs_fit, replies_by}
 use Rattle.aggregate_op.specs.declared.clauses.Clauses.{Clauses}
+use Rattle.aggregate_op.specs.declared.kept.Kept.{Kept}
 use Rattle.port_reacts.specs.Evaluation.{idle}
 use Rattle.aggregate_op.specs.Arguments.{blank}
+use Rattle.aggregate_op.specs.Kept.{KeptStands}
 use Rattle.aggregate_op.specs.steps.Arguments.{ArgumentFits, ArgumentsFit}
 use Rattle.aggregate_op.specs.Standing.{AggregateStands, came_into, operator_of, key_of_tuple, tuple_with_arguments}
 use Rattle.aggregate_op.specs.steps.Firing.{MayCome, events_after, item_makes, tuple_event}
@@ -102,14 +101,6 @@ shape_of scope _ _ _ _ window partition group output is (K.split index kind sche
 shape_of scope _ _ _ _ window partition group output is (K.union places ins schema a b) = absurd cc
 shape_of scope _ _ _ _ window partition group output is (K.custom handlers ins outs a) = absurd cc
 shape_of scope _ _ _ _ window partition group output is (K.join left right condition fields first second schema a b d e f h i) = absurd cc
-
--- a window of an Aggregate is one that there may be
-pub is_allowed : (schema : Attributes) (rule : WindowRule) → AggregateWindow schema rule → IsAllowed rule
-is_allowed schema _ (K.tumbling_count n is) = is.0
-is_allowed schema _ (K.tumbling_delta place limit is) = tt
-is_allowed schema _ K.tumbling_punct = tt
-is_allowed schema _ (K.sliding_count n every is often) = λ m e. let same : every ≡ m = cc in subst (λ k. 0 < k) same often.0
-is_allowed schema _ (K.sliding_delta place limit every is often) = λ m e. let same : every ≡ m = cc in subst (λ k. 0 < k) same often.0
 
 places_below : (input : Attributes) (places : List ℕ) → ((i p : ℕ) → slice_get places i ≡ Some p → p < length input) → AllByRecursion (λ p. p < length input) places
 places_below input [] k = tt
@@ -296,8 +287,9 @@ module _ (clauses : Clauses) (fit : IsFitting (operator_of clauses))
     marked_if (Some outs) fits = (outs, refl)
 
     -- what is made isn't stuck, so the item may come
-    may_come : (w : Window) → Stands rule w held → (x : Item) → ItemHas own.input x → MakesFit op (item_makes clauses rule held x) → MayCome clauses w x
+    may_come : (w : Kept) → KeptStands clauses rule w held → (x : Item) → ItemHas own.input x → MakesFit op (item_makes clauses rule held x) → MayCome clauses w x
     may_come w stands (I.Tuple t) has fits = (
+      as_long own.input t (sym (fits_tuple own.input t) ∙ has) ∙ sym width_is,
       arguments_fit op fit clauses.window.now clauses.partition.now clauses.group.now clauses.output.now is t has,
       λ args turns e. let there = given_if (arguments op.functions clauses.output.now (at_tuple t) most_turns) (contents_given clauses (fired_contents rule (tuple_event clauses t) held)) args turns e fits in
           (rule, held, there.0, stands, there.1),
@@ -315,7 +307,7 @@ behind_is clauses I.Window items = refl
 behind_is clauses I.Final items = refl
 behind_is clauses (I.Bad f) items = refl
 
-module _ (clauses : Clauses) (w : Window) (env : Env) (h : List Event) (port : ℕ) (x : Item) (law : FitsAt (λ part. true)) (stood : AggregateStands clauses w env h)
+module _ (clauses : Clauses) (w : Kept) (env : Env) (h : List Event) (port : ℕ) (x : Item) (law : FitsAt (λ part. true)) (stood : AggregateStands clauses w env h)
     (may : MayTakeAt (operator_of clauses) h port x) where
   abbrev it : Operator
   it = operator_of clauses
@@ -341,7 +333,7 @@ module _ (clauses : Clauses) (w : Window) (env : Env) (h : List Event) (port : �
       (subst (MakesFit it) makes_is (law it h port x refl may.fitting may.history calm may.has))
 
   abbrev ItemReplies : Reply → Type 0
-  ItemReplies reply = (rule : WindowRule) (k : List WindowEvent) → Stands rule w k
+  ItemReplies reply = (rule : WindowRule) (k : List WindowEvent) → KeptStands clauses rule w k
       → RepliesToItem clauses.at.number (length clauses.at.op.now.outs) (answer (item_makes clauses rule k x)) x reply
 
   pub replies_there : (reply : Reply) → ItemReplies reply → RepliesAt it h port x reply
@@ -353,8 +345,8 @@ module _ (clauses : Clauses) (w : Window) (env : Env) (h : List Event) (port : �
   first_port : port ≡ 0
   first_port = let one : length it.types.ins ≡ 1 = ap length (own clauses may.fitting stood.are stood.width).takes in omega (arith, may.has.0)
 
-  pub stands_there : (new : Window) (now : Env) (reply : Reply) → ItemReplies reply → IsTaken reply
-      → WhereOut reply ((rule : WindowRule) (k : List WindowEvent) → Stands rule w k → Stands rule new (events_after clauses x k)) → WhereOut reply (now ≡ idle)
+  pub stands_there : (new : Kept) (now : Env) (reply : Reply) → ItemReplies reply → IsTaken reply
+      → WhereOut reply ((rule : WindowRule) (k : List WindowEvent) → KeptStands clauses rule w k → KeptStands clauses rule new (events_after clauses x k)) → WhereOut reply (now ≡ idle)
       → AggregateStands clauses new now (came port x ∷ h)
   stands_there new now reply k taken moves ready = record {
     are = stood.are;
@@ -363,7 +355,7 @@ module _ (clauses : Clauses) (w : Window) (env : Env) (h : List Event) (port : �
     no_tuple = λ goes. where_out it h port x reply _ (replies_there reply k) taken goes ready;
   }
     where
-      behind_so : ((rule : WindowRule) (k : List WindowEvent) → Stands rule w k → Stands rule new (events_after clauses x k)) → Stands clauses.window.now.rule new (came_into clauses (came port x ∷ h))
+      behind_so : ((rule : WindowRule) (k : List WindowEvent) → KeptStands clauses rule w k → KeptStands clauses rule new (events_after clauses x k)) → KeptStands clauses clauses.window.now.rule new (came_into clauses (came port x ∷ h))
       behind_so move =
-          subst (λ p. Stands clauses.window.now.rule new (came_into clauses (came p x ∷ h))) (sym first_port)
-          (subst (Stands clauses.window.now.rule new) (behind_is clauses x (port_items 0 h)) (move clauses.window.now.rule (came_into clauses h) (stood.window may.goes_on)))
+          subst (λ p. KeptStands clauses clauses.window.now.rule new (came_into clauses (came p x ∷ h))) (sym first_port)
+          (subst (KeptStands clauses clauses.window.now.rule new) (behind_is clauses x (port_items 0 h)) (move clauses.window.now.rule (came_into clauses h) (stood.window may.goes_on)))

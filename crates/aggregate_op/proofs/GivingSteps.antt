@@ -11,6 +11,7 @@ use Rattle.window_policy.specs.declared.fired.FlushedContent.{FlushedContent}
 use Rattle.window_policy.specs.Answers.{entry_of}
 use Rattle.aggregate_op.specs.declared.clauses.Clauses.{Clauses}
 use Rattle.aggregate_op.specs.steps.Giving.{content_given, contents_given, groups_given, tuple_given}
+use Rattle.aggregate_op.specs.steps.Summing.{answers_given, sums_given}
 
 -- the first of several is there, where all are
 first_there : {X : Type 0} (f : X → List Output) (o : Option X) (rest : Option (List Output)) (outs all : List Output)
@@ -64,6 +65,20 @@ module _ (clauses : Clauses) where
       first_more (λ os. os) (content_given clauses us) (contents_given clauses rest) outs new all given t added
       (ap (λ ds. option_map (λ more. outs ++ more) (contents_given clauses ds)) (sym is) ∙ e)
 
+  -- the same by the answers of the folds
+  pub answers_there : (answers : List Value) (cs rest : List (List Value)) (outs all : List Output) → cs ≡ answers ∷ rest
+      → option_map (λ more. outs ++ more) (sums_given clauses cs) ≡ Some all → (given : List Output) × (answers_given clauses answers ≡ Some given)
+  answers_there answers cs rest outs all is e =
+      first_there (λ os. os) (answers_given clauses answers) (sums_given clauses rest) outs all
+      (ap (λ ds. option_map (λ more. outs ++ more) (sums_given clauses ds)) (sym is) ∙ e)
+
+  pub answers_more : (answers : List Value) (cs rest : List (List Value)) (outs new all given : List Output) → cs ≡ answers ∷ rest
+      → answers_given clauses answers ≡ Some given → new ≡ outs ++ given → option_map (λ more. outs ++ more) (sums_given clauses cs) ≡ Some all
+      → option_map (λ more. new ++ more) (sums_given clauses rest) ≡ Some all
+  answers_more answers cs rest outs new all given is t added e =
+      first_more (λ os. os) (answers_given clauses answers) (sums_given clauses rest) outs new all given t added
+      (ap (λ ds. option_map (λ more. outs ++ more) (sums_given clauses ds)) (sym is) ∙ e)
+
 -- the contents that a marker flushes
 abbrev pub tuples_in : List FlushedContent → List (List (List Value))
 tuples_in flushed = map (λ (e : FlushedContent). e.tuples) flushed
@@ -76,14 +91,27 @@ flushed_tuples flushed es is = by flushed ∙ ap (map (λ e. e.1)) is
     by (e ∷ flushed) = ap (λ cs. e.tuples ∷ cs) (by flushed)
 
 -- one content alone
-pub one_there : (clauses : Clauses) (us : List (List Value)) (given : List Output) → contents_given clauses (us ∷ []) ≡ Some given → (outs : List Output) × (content_given clauses us ≡ Some outs)
-one_there clauses us given e = by (content_given clauses us) e
-  where
-    by : (o : Option (List Output)) → option_and_then (λ outs. option_map (λ more. outs ++ more) (Some [])) o ≡ Some given → (outs : List Output) × (o ≡ Some outs)
-    by None e = absurd cc
-    by (Some outs) e = (outs, refl)
+abbrev alone : Option (List Output) → Option (List Output)
+alone o = option_and_then (λ outs. option_map (λ more. outs ++ more) (Some [])) o
 
-pub one_given : (clauses : Clauses) (us : List (List Value)) (outs old new : List Output) → content_given clauses us ≡ Some outs → old ≡ [] → new ≡ old ++ outs
-    → contents_given clauses (us ∷ []) ≡ Some new
-one_given clauses us outs old new e none added =
-    ap (option_and_then (λ outs. option_map (λ more. outs ++ more) (Some []))) e ∙ ap Some (append-nil outs ∙ sym (added ∙ ap (λ os. os ++ outs) none))
+alone_there : (o : Option (List Output)) (given : List Output) → alone o ≡ Some given → (outs : List Output) × (o ≡ Some outs)
+alone_there None given e = absurd cc
+alone_there (Some outs) given e = (outs, refl)
+
+alone_given : (o : Option (List Output)) (outs old new : List Output) → o ≡ Some outs → old ≡ [] → new ≡ old ++ outs → alone o ≡ Some new
+alone_given o outs old new e none added = ap alone e ∙ ap Some (append-nil outs ∙ sym (added ∙ ap (λ os. os ++ outs) none))
+
+module _ (clauses : Clauses) where
+  pub one_there : (us : List (List Value)) (given : List Output) → contents_given clauses (us ∷ []) ≡ Some given → (outs : List Output) × (content_given clauses us ≡ Some outs)
+  one_there us given e = alone_there (content_given clauses us) given e
+
+  pub one_given : (us : List (List Value)) (outs old new : List Output) → content_given clauses us ≡ Some outs → old ≡ [] → new ≡ old ++ outs
+      → contents_given clauses (us ∷ []) ≡ Some new
+  one_given us outs old new e none added = alone_given (content_given clauses us) outs old new e none added
+
+  pub one_answer_there : (answers : List Value) (given : List Output) → sums_given clauses (answers ∷ []) ≡ Some given → (outs : List Output) × (answers_given clauses answers ≡ Some outs)
+  one_answer_there answers given e = alone_there (answers_given clauses answers) given e
+
+  pub one_answer_given : (answers : List Value) (outs old new : List Output) → answers_given clauses answers ≡ Some outs → old ≡ [] → new ≡ old ++ outs
+      → sums_given clauses (answers ∷ []) ≡ Some new
+  one_answer_given answers outs old new e none added = alone_given (answers_given clauses answers) outs old new e none added

@@ -1,6 +1,11 @@
 pub mod Aggregating
+pub mod AnswerSteps
 pub mod ArgumentSteps
 pub mod Beginning
 pub mod FiringSteps
+pub mod FullContents
 pub mod GivingSteps
+pub mod KeptSteps
+pub mod Summing
+pub mod SumsSteps
 pub mod Ties

@@ -1,11 +1,13 @@
 //! The operator Aggregate.
 mod calls;
 mod events;
+mod running;
+mod whole;
 
 use crate::clauses::Clauses;
+use crate::kept::Kept;
 use language_model::Env;
 use std::alloc::Global;
-use window_policy::Window;
 
 /// An Aggregate: it gives a tuple for each group of a content with which its window fires, by ascending key.
 /// The arguments of its assignments are evaluated when a tuple comes. A window marker follows each content of
@@ -13,7 +15,7 @@ use window_policy::Window;
 pub struct Aggregate<'c> {
     pub(crate) alloc: Global,
     pub(crate) clauses: Clauses<'c>,
-    pub(crate) window: Window,
+    pub(crate) kept: Kept,
     /// It has no tuple between events.
     pub(crate) env: Env,
 }
@@ -23,7 +25,7 @@ impl<'c> Drop for Aggregate<'c> {
         let Aggregate {
             alloc: _,
             clauses: _,
-            window: _,
+            kept: _,
             env: _,
         } = self;
     }

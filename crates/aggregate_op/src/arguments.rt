@@ -1,6 +1,5 @@
 //! The arguments of an Aggregate's assignments.
-ghost use Rattle.std.specs.Prelude.{◌≡◌, ◌++◌, IfOk, List};
-ghost use Rattle.spl_value.specs.declared.value.Value.{Value as V};
+ghost use Rattle.std.specs.Prelude.{◌≡◌, IfOk};
 ghost use Rattle.stream_model.specs.Aggregates.{arguments as arguments_of};
 ghost use Rattle.stream_model.specs.parts.Aggregates.{argument as argument_of};
 ghost use Rattle.stream_model.specs.Bodies.{at_tuple, most_turns};
@@ -8,7 +7,7 @@ ghost use Rattle.value_operations.specs.Answers.{Answers};
 ghost use Rattle.port_reacts.specs.Evaluation.{idle};
 ghost use Rattle.aggregate_op.specs.Arguments.{blank};
 ghost use Rattle.aggregate_op.specs.steps.Arguments.{ArgumentFits, ArgumentsFit};
-ghost use Rattle.aggregate_op.specs.steps.Evaluating.{EvaluatesTo, ExtendsAs};
+ghost use Rattle.aggregate_op.specs.steps.Evaluating.{EvaluatesTo, HasArguments};
 
 use expr_eval::eval;
 use language_model::{CollectedAttribute, Env};
@@ -69,24 +68,23 @@ fn arguments(
     Ok(values)
 }
 
-/// A tuple with the values of its arguments after its own.
-pub(crate) fn extended(
+/// A tuple, and the values of its arguments.
+pub(crate) fn with_arguments(
     alloc: Global,
     functions: &Functions,
     output: &Items<CollectedAttribute>,
     env: &mut Env,
     tuple: Values,
-) -> Result<Values, Stop>
+) -> Result<(Values, Values), Stop>
     requires fit { ArgumentsFit functions.now output.now (at_tuple tuple) }
     requires idle { env.old ≡ idle }
-    ensures extends { ExtendsAs (arguments_of functions.now output.now (at_tuple tuple) most_turns) tuple result }
+    ensures has { HasArguments (arguments_of functions.now output.now (at_tuple tuple) most_turns) tuple result }
     ensures idle { IfOk result (λ _. env.new ≡ idle) }
 {
     env.inputs.push(tuple)?;
     let values = arguments(alloc, functions, output.as_slice(), env)?;
-    let Some(mut tuple) = env.inputs.pop() else {
+    let Some(tuple) = env.inputs.pop() else {
         unreachable!()
     };
-    tuple.append(values)?;
-    Ok(tuple)
+    Ok((tuple, values))
 }

@@ -118,7 +118,7 @@ fn give_grouped(
 }
 
 /// Gives a window marker after a content, where the window tumbles.
-fn give_marker(rule: WindowRule, outs: &mut Outs) -> Result<(), NoMemory>
+pub(crate) fn give_marker(rule: WindowRule, outs: &mut Outs) -> Result<(), NoMemory>
     ensures { IfOk result (λ _. outs.new ≡ outs.old ++ marker_after rule) }
 {
     match rule {

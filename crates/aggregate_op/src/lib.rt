@@ -5,5 +5,7 @@ mod aggregate;
 mod arguments;
 mod clauses;
 mod contents;
+mod kept;
+mod sums;
 
 pub use aggregate::Aggregate;

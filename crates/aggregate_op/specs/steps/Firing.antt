@@ -1,5 +1,5 @@
 -- What an Aggregate asks and makes of what comes into its window, where tuples have the values of their arguments after them.
-use Rattle.std.specs.Prelude.{◌≡◌, ⊤, ℕ, List, [], ◌∷◌, ◌++◌, Option, Some}
+use Rattle.std.specs.Prelude.{◌≡◌, ⊤, ℕ, List, [], ◌∷◌, ◌++◌, length, Option, Some}
 use Rattle.spl_value.specs.declared.item.Item.{Item}
 use Rattle.spl_value.specs.declared.item.Item.TheVariants as I
 use Rattle.spl_value.specs.declared.value.Value.{Value}
@@ -10,9 +10,9 @@ use Rattle.stream_model.specs.Aggregates.{arguments}
 use Rattle.stream_model.specs.parts.Aggregates.{marker_passed}
 use Rattle.stream_model.specs.Bodies.{Makes, at_tuple, most_turns}
 use Rattle.stream_model.specs.Windows.{WindowEvent, Insert, Mark, fired_contents}
-use Rattle.window_policy.specs.declared.window.Window.{Window}
-use Rattle.window_policy.specs.Standing.{Stands}
 use Rattle.aggregate_op.specs.declared.clauses.Clauses.{Clauses}
+use Rattle.aggregate_op.specs.declared.kept.Kept.{Kept}
+use Rattle.aggregate_op.specs.Kept.{KeptStands}
 use Rattle.aggregate_op.specs.steps.Arguments.{ArgumentsFit}
 use Rattle.aggregate_op.specs.Standing.{key_of_tuple, tuple_with_arguments}
 use Rattle.aggregate_op.specs.steps.Giving.{contents_given}
@@ -20,15 +20,18 @@ use Rattle.aggregate_op.specs.steps.Giving.{contents_given}
 abbrev pub tuple_event : Clauses → List Value → WindowEvent
 tuple_event clauses t = Insert (key_of_tuple clauses t) (tuple_with_arguments clauses t)
 
--- the contents with which an event of the window fires give something
-abbrev pub EventGives : Clauses → Window → WindowEvent → Type 0
-EventGives clauses w e =
-    (rule : WindowRule) × (h : List WindowEvent) × (given : List Output) × Stands rule w h × (contents_given clauses (fired_contents rule e h) ≡ Some given)
+-- where something stands for histories, the contents with which an event of the window fires after one of them give something
+abbrev pub Gives : Clauses → (WindowRule → List WindowEvent → Type 0) → WindowEvent → Type 0
+Gives clauses Stood e =
+    (rule : WindowRule) × (h : List WindowEvent) × (given : List Output) × Stood rule h × (contents_given clauses (fired_contents rule e h) ≡ Some given)
+
+abbrev pub EventGives : Clauses → Kept → WindowEvent → Type 0
+EventGives clauses kept e = Gives clauses (λ rule h. KeptStands clauses rule kept h) e
 
 -- those of a tuple do, where its arguments have values
-abbrev pub TupleGives : Clauses → Window → List Value → Type 0
-TupleGives clauses w t = (args : List (Option Value)) (turns : ℕ)
-    → arguments clauses.at.checked.now.functions clauses.output.now (at_tuple t) most_turns ≡ Done args turns → EventGives clauses w (tuple_event clauses t)
+abbrev pub TupleGives : Clauses → Kept → List Value → Type 0
+TupleGives clauses kept t = (args : List (Option Value)) (turns : ℕ)
+    → arguments clauses.at.checked.now.functions clauses.output.now (at_tuple t) most_turns ≡ Done args turns → EventGives clauses kept (tuple_event clauses t)
 
 -- what is made of a tuple, and of a window marker
 abbrev pub tuple_makes : Clauses → WindowRule → List WindowEvent → List Value → Makes
@@ -46,11 +49,11 @@ item_makes clauses rule h I.Final = Done [] most_turns
 item_makes clauses rule h (I.Bad f) = Done [] most_turns
 
 -- an item may come
-abbrev pub MayCome : Clauses → Window → Item → Type 0
-MayCome clauses w (I.Tuple t) = ArgumentsFit clauses.at.checked.now.functions clauses.output.now (at_tuple t) × TupleGives clauses w t
-MayCome clauses w I.Window = EventGives clauses w Mark
-MayCome clauses w I.Final = ⊤
-MayCome clauses w (I.Bad f) = ⊤
+abbrev pub MayCome : Clauses → Kept → Item → Type 0
+MayCome clauses kept (I.Tuple t) = (length t ≡ clauses.width) × ArgumentsFit clauses.at.checked.now.functions clauses.output.now (at_tuple t) × TupleGives clauses kept t
+MayCome clauses kept I.Window = EventGives clauses kept Mark
+MayCome clauses kept I.Final = ⊤
+MayCome clauses kept (I.Bad f) = ⊤
 
 -- what is in the window after an item
 abbrev pub events_after : Clauses → Item → List WindowEvent → List WindowEvent

@@ -5,25 +5,24 @@ ghost use Rattle.language_model.specs.declared.checked.CheckedClauses.TheVariant
 ghost use Rattle.language_model.specs.declared.checked.Policy.{Policy as AnyPolicy};
 ghost use Rattle.stream_model.specs.CheckedMeaning.{first_schema, graph_of, operator_with, schema_at};
 ghost use Rattle.stream_model.specs.Operators.{input_attributes};
-ghost use Rattle.window_policy.specs.Answers.{IsAllowed};
-ghost use Rattle.window_policy.specs.Standing.{Stands};
 ghost use Rattle.port_reacts.specs.Evaluation.{idle};
+ghost use Rattle.aggregate_op.specs.Kept.{KeptStands, WindowFits};
 ghost use Rattle.aggregate_op.specs.Standing.{AggregateStands, operator_of};
 
 use crate::aggregate::Aggregate;
 use crate::aggregate::events::on_item;
 use crate::clauses::Clauses;
+use crate::kept::kept_of;
 use language_model::{Checked, CheckedClauses};
 use port_reacts::{CheckedOperator, OnPort, fits_law, idle_env};
 use spl_value::{Inputs, Item, NoMemory};
 use std::alloc::Global;
 use stream_model::Reply;
-use window_policy::Window;
 
 impl<'c> OnPort for Aggregate<'c> {
     ghost spec = { λ s. operator_of s.clauses };
 
-    ghost stands = { λ s h. AggregateStands s.clauses s.window s.env h };
+    ghost stands = { λ s h. AggregateStands s.clauses s.kept s.env h };
 
     fn on_port(&mut self, port: u32, item: Item) -> Reply {
         fits_law();
@@ -31,7 +30,7 @@ impl<'c> OnPort for Aggregate<'c> {
             self.alloc,
             &self.clauses,
             &mut self.env,
-            &mut self.window,
+            &mut self.kept,
             item,
         )
     }
@@ -72,17 +71,17 @@ fn input_width(at: &CheckedOperator<'_>) -> usize
 
 /// An Aggregate of these clauses, before anything came.
 fn begun<'c>(alloc: Global, clauses: Clauses<'c>) -> Result<Aggregate<'c>, NoMemory>
-    requires { IsAllowed clauses.window.now.rule }
+    requires { WindowFits clauses }
     ensures clauses { IfOk result (λ aggregate. aggregate.clauses ≡ clauses.entry) }
-    ensures stands { IfOk result (λ aggregate. Stands clauses.entry.window.now.rule aggregate.window []) }
+    ensures stands { IfOk result (λ aggregate. KeptStands clauses.entry clauses.entry.window.now.rule aggregate.kept []) }
     ensures idle { IfOk result (λ aggregate. aggregate.env ≡ idle) }
 {
-    let window = Window::new(alloc, clauses.window)?;
     let env = idle_env(alloc)?;
+    let kept = kept_of(alloc, &clauses)?;
     Ok(Aggregate {
         alloc,
         clauses,
-        window,
+        kept,
         env,
     })
 }

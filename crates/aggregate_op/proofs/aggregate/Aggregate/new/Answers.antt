@@ -1,7 +1,9 @@
-use Rattle.std.proofs.Common.{Some, sym, ap, ◌∙◌}
+use Rattle.std.proofs.Common.{Some, [], length, slice_get, sym, ap, ◌∙◌}
+use Rattle.std.specs.Option.{unwrap_or}
 use Rattle.stream_model.specs.CheckedMeaning.{operator_with}
+use Rattle.stream_model.specs.Operators.{input_attributes}
 use Rattle.aggregate_op.specs.Standing.{operator_of}
-use Rattle.aggregate_op.proofs.Aggregating.{is_allowed, shape}
+use Rattle.aggregate_op.proofs.Aggregating.{shape}
 use Rattle.aggregate_op.proofs.Beginning.{begins}
 use Rattle.aggregate_op.proofs.aggregate.Aggregate.new.Goals as goal
 use Rattle.spl_value.proofs.Results.{ok_weaker}
@@ -9,8 +11,13 @@ use Rattle.spl_value.proofs.Results.{ok_weaker}
 pub begun-requires : goal.begun-requires
 begun-requires c =
     let at = c.new-at.result in
-    let s = shape (operator_with c.args.checked.now c.args.op at.op.now at.part.now) c.new-at.ensures.fitting c.in-Aggregate.window c.in-Aggregate.partition c.in-Aggregate.group c.in-Aggregate.output c.in-Aggregate.is in
-    is_allowed s.input c.in-Aggregate.window.rule s.window_fits
+    let s = shape (operator_with c.args.checked.now c.args.op at.op.now at.part.now) c.new-at.ensures.fitting c.in-Aggregate.window c.in-Aggregate.partition c.in-Aggregate.group c.in-Aggregate.output c.in-Aggregate.is in (
+      s.input,
+      s.window_fits,
+      c.input_width-width.ensures.is
+          ∙ (λ i. length (input_attributes (operator_with (c.new-at.ensures.checked i) (c.new-at.ensures.number i) at.op.now at.part.now) 0))
+          ∙ ap length (ap (λ ins. unwrap_or (slice_get ins 0) []) s.takes),
+    )
 
 pub returns-clause-is : goal.returns-clause-is
 returns-clause-is c =

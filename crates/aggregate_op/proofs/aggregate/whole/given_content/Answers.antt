@@ -1,5 +1,5 @@
 use Rattle.aggregate_op.proofs.GivingSteps.{one_given, one_there}
-use Rattle.aggregate_op.proofs.aggregate.events.given_content.Goals as goal
+use Rattle.aggregate_op.proofs.aggregate.whole.given_content.Goals as goal
 
 pub give_held-requires : goal.give_held-requires
 give_held-requires c = one_there c.args.clauses.now c.args.content.now c.requires.0 c.requires.1

@@ -2,7 +2,7 @@ use Rattle.std.proofs.Common.{◌∷◌, sym, ap, ◌∙◌}
 use Rattle.stream_model.specs.Windows.{Insert, content, contents_of}
 use Rattle.window_policy.specs.Answers.{firing_of}
 use Rattle.aggregate_op.specs.steps.Giving.{contents_given}
-use Rattle.aggregate_op.proofs.aggregate.events.given_fired.Goals as goal
+use Rattle.aggregate_op.proofs.aggregate.whole.given_fired.Goals as goal
 use Rattle.spl_value.proofs.Results.{ok_weaker}
 
 pub given_whole-requires : goal.given_whole-requires

@@ -1,7 +1,7 @@
 use Rattle.std.proofs.Common.{ap, ◌∙◌}
 use Rattle.aggregate_op.specs.steps.Giving.{content_given}
 use Rattle.aggregate_op.proofs.GivingSteps.{one_given, one_there}
-use Rattle.aggregate_op.proofs.aggregate.events.given_whole.Goals as goal
+use Rattle.aggregate_op.proofs.aggregate.whole.given_whole.Goals as goal
 
 pub give_tuples-requires : goal.give_tuples-requires
 give_tuples-requires c =

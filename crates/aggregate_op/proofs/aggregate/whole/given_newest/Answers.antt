@@ -1,6 +1,6 @@
 use Rattle.std.proofs.Common.{◌∷◌, [], sym, ap, ◌∙◌}
 use Rattle.aggregate_op.specs.steps.Giving.{contents_given}
-use Rattle.aggregate_op.proofs.aggregate.events.given_newest.Goals as goal
+use Rattle.aggregate_op.proofs.aggregate.whole.given_newest.Goals as goal
 use Rattle.spl_value.proofs.Results.{ok_weaker}
 
 pub given_content-requires : goal.given_content-requires
