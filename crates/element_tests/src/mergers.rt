@@ -11,6 +11,7 @@ use crate::shown::{add_waiting, finished};
 use crate::spoken::item_of;
 use element_outboxes::{Fan, Outbox, fans_of};
 use merger_works::{Merge, run_merger};
+use operator_chains::How;
 use order_merger::{NumberMerger, TurnMerger};
 use pulse_rule::PulseMerger;
 use spl_value::{Items, NoMemory, Packet};
@@ -81,7 +82,8 @@ fn merge<M: Asked>(
         return Ok(());
     }
     let packet = packet_of(alloc, word)?;
-    run_merger(alloc, merger, fans, outbox, channel, packet)
+    run_merger(alloc, merger, fans, outbox, channel, packet, How::Live)?;
+    Ok(())
 }
 
 /// What waits after the words of a row, or where they ask for it.

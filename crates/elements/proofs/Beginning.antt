@@ -18,6 +18,7 @@ use Rattle.operator_chains.specs.Standing.{AtChain, places_of}
 use Rattle.operator_chains.specs.declared.chain.Chain.{Chain}
 use Rattle.element_outboxes.specs.Waiting.{fans_from, outputs_in, waits}
 use Rattle.element_outboxes.specs.declared.fan.Fan.{Fan}
+use Rattle.element_notes.specs.Noting.{HasNoted}
 use Rattle.element_works.specs.Tuples.{IsKept, room_of, sink_waits}
 use Rattle.element_works.specs.Works.{ChainAt, HasFans, SplitterAt, stages_at}
 use Rattle.element_works.specs.declared.tuples.Tuples.{Tuples}
@@ -154,8 +155,8 @@ module _ {R : Type 0} (spec : R → Operator) (stands : R → List Event → Typ
 
   pub begins : (e : Element R) (made : ElementPart R) (part : Part) → IsNew spec stands part made → e.work ≡ made.work → e.ins ≡ made.ins → e.inputs ≡ replicate (length made.ins) new_input → e.outputs ≡ replicate (outputs_in made.fans) new_output
       → e.fans ≡ fans_from 0 made.fans → e.reads ≡ is_some made.source → e.cut ≡ false → waits e.outbox ≡ [] → sink_waits e.tuples ≡ [] → IsKept e.tuples → room_of e.tuples ≡ places_for made.work
-      → IsAt spec stands part e new_element []
-  begins e made part new same schemas ins outs fans reads cut outbox tuples kept room = record {
+      → HasNoted part e.notes [] [] [] → IsAt spec stands part e new_element []
+  begins e made part new same schemas ins outs fans reads cut outbox tuples kept room has = record {
     spent = record {
       cut = cut;
       input_count = ap length ins ∙ length-replicate (length made.ins) new_input ∙ new.input_count;
@@ -169,6 +170,7 @@ module _ {R : Type 0} (spec : R → Operator) (stands : R → List Event → Typ
       cuts = λ q. let clash : false ≡ true = q in cc;
       closed = refl;
       front = (pours part [], refl);
+      notes = has;
     };
     outbox = λ q. sym outbox;
     tuples = tuples ∙ sym (nothing_poured part);

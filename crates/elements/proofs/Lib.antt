@@ -1,5 +1,6 @@
 pub mod Receiving
 pub mod Working
+pub mod Noting
 pub mod Taking
 pub mod Putting
 pub mod Asking

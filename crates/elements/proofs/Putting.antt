@@ -13,9 +13,13 @@ use Rattle.stream_model.specs.Stream.{Event}
 use Rattle.stream_model.specs.declared.outgoing.Outgoing.{Outgoing}
 use Rattle.network_model.specs.Networks.{Part, outputs}
 use Rattle.network_model.specs.Packets.{has_last}
+use Rattle.network_model.specs.Receipts.{Receipt}
 use Rattle.network_model.specs.States.{At, cuts_from, puts}
 use Rattle.network_model.proofs.ElementRule.{rule-puts, rule-unputs}
 use Rattle.stream_model.proofs.Outputs.{on_output-append}
+use Rattle.element_notes.specs.Endings.{sent_on}
+use Rattle.element_notes.specs.Noting.{HasNoted}
+use Rattle.element_notes.specs.declared.notes.Notes.{Notes}
 use Rattle.element_outboxes.specs.Waiting.{IsFree, waits}
 use Rattle.element_outboxes.specs.declared.outbox.Outbox.{Outbox}
 use Rattle.elements.specs.declared.element.Element.{Element}
@@ -110,12 +114,17 @@ tells_all outs pushed is i x got = is i x got ∙ ap (λ n. has_last (on_output 
 
 module _ {R : Type 0} (spec : R → Operator) (stands : R → List Event → Type 0) where
   -- the element behind a packet that was put
-  abbrev pub handed_out : Element R → Outbox → List Output → Bool → Element R
-  handed_out e outbox outs was = record { alloc = e.alloc; work = e.work; ins = e.ins; inputs = e.inputs; reads = e.reads; fans = e.fans; outbox = outbox; outputs = outs; was_ended = was; tuples = e.tuples; cut = e.cut }
+  abbrev pub handed_out : Element R → Outbox → List Output → Bool → ℕ → Notes → Element R
+  handed_out e outbox outs was n notes = record { alloc = e.alloc; work = e.work; ins = e.ins; inputs = e.inputs; reads = e.reads; fans = e.fans; outbox = outbox; outputs = outs; was_ended = was; was_sent = n; tuples = e.tuples; notes = notes; cut = e.cut }
 
-  put_spent : (e : Element R) (outbox : Outbox) (outs : List Output) (was : Bool) (s : Outgoing) → IsPut s.output s.packet e.outputs outs → (part : Part) (a : At) (poured : List (List Value)) → IsSpent part e a poured
-      → (rest : List Outgoing) → a.outbox ≡ s ∷ rest → (a.cut ≡ true → drop 1 a.outbox ≡ cuts_from 0 (outputs part) (a.pushed ++ s ∷ [])) → IsSpent part (handed_out e outbox outs was) (puts a s) poured
-  put_spent e outbox outs was s noted part a poured spent rest first cuts = record {
+  -- what its notes say of a packet that was put
+  abbrev pub NotesPut : Notes → Notes → ℕ → Outgoing → Type 0
+  NotesPut old new n s = (part : Part) (kept : List Receipt) (pushed : List Outgoing) (poured : List (List Value)) → HasNoted part old kept pushed poured
+      → HasNoted part new kept (pushed ++ s ∷ []) poured × (s.output < outputs part → n ≡ sent_on s.output pushed)
+
+  put_spent : (e : Element R) (outbox : Outbox) (outs : List Output) (was : Bool) (n : ℕ) (notes : Notes) (s : Outgoing) → NotesPut e.notes notes n s → IsPut s.output s.packet e.outputs outs → (part : Part) (a : At) (poured : List (List Value)) → IsSpent part e a poured
+      → (rest : List Outgoing) → a.outbox ≡ s ∷ rest → (a.cut ≡ true → drop 1 a.outbox ≡ cuts_from 0 (outputs part) (a.pushed ++ s ∷ [])) → IsSpent part (handed_out e outbox outs was n notes) (puts a s) poured
+  put_spent e outbox outs was n notes s notes_put noted part a poured spent rest first cuts = record {
     cut = spent.cut;
     input_count = spent.input_count;
     taken = spent.taken;
@@ -130,17 +139,18 @@ module _ {R : Type 0} (spec : R → Operator) (stands : R → List Event → Typ
     cuts = cuts;
     closed = spent.closed;
     front = spent.front;
+    notes = (notes_put part a.kept a.pushed poured spent.notes).0;
   }
 
   put_before : (e : Element R) (outs : List Output) (was : Bool) (s : Outgoing) → IsPut s.output s.packet e.outputs outs → ((x : Output) → slice_get e.outputs s.output ≡ Some x → was ≡ x.ended)
       → (part : Part) (a : At) (poured : List (List Value)) → IsSpent part e a poured → (y : Output) → slice_get outs s.output ≡ Some y → was ≡ has_last (on_output s.output a.pushed)
   put_before e outs was s noted before part a poured spent y got = let x = noted.each s.output y got in before x.0 x.1 ∙ spent.put s.output x.0 x.1
 
-  pub put_one : (e : Element R) (outbox : Outbox) (outs : List Output) (was : Bool) (s : Outgoing) → waits e.outbox ≡ s ∷ waits outbox → IsFree outbox → IsPut s.output s.packet e.outputs outs
+  pub put_one : (e : Element R) (outbox : Outbox) (outs : List Output) (was : Bool) (n : ℕ) (notes : Notes) (s : Outgoing) → NotesPut e.notes notes n s → waits e.outbox ≡ s ∷ waits outbox → IsFree outbox → IsPut s.output s.packet e.outputs outs
       → ((x : Output) → slice_get e.outputs s.output ≡ Some x → was ≡ x.ended) → e.cut ≡ false
       → (part : Part) (a : At) (poured : List (List Value)) → IsAt spec stands part e a poured
-      → WasPut part (handed_out e outbox outs was) a s × IsAt spec stands part (handed_out e outbox outs was) (puts a s) poured
-  put_one e outbox outs was s taken free noted before cut part a poured at =
+      → WasPut part (handed_out e outbox outs was n notes) a s × IsAt spec stands part (handed_out e outbox outs was n notes) (puts a s) poured
+  put_one e outbox outs was n notes s notes_put taken free noted before cut part a poured at =
       let uncut : a.cut ≡ false = sym at.spent.cut ∙ cut in
       let first : a.outbox ≡ s ∷ waits outbox = at.outbox uncut ∙ taken in (
         record {
@@ -149,9 +159,10 @@ module _ {R : Type 0} (spec : R → Operator) (stands : R → List Event → Typ
           cuts = at.spent.cuts;
           before = put_before e outs was s noted before part a poured at.spent;
           free = λ q. free;
+          sent = (notes_put part a.kept a.pushed poured at.spent.notes).1;
         },
         record {
-          spent = put_spent e outbox outs was s noted part a poured at.spent (waits outbox) first (λ q. let clash : true ≡ false = sym q ∙ uncut in cc);
+          spent = put_spent e outbox outs was n notes s notes_put noted part a poured at.spent (waits outbox) first (λ q. let clash : true ≡ false = sym q ∙ uncut in cc);
           outbox = λ q. ap (drop 1) first;
           tuples = at.tuples;
           kept = at.kept;
@@ -161,11 +172,11 @@ module _ {R : Type 0} (spec : R → Operator) (stands : R → List Event → Typ
         },
       )
 
-  pub put_cut_one : (e : Element R) (outs : List Output) (was : Bool) (k : ℕ) → e.cut ≡ true → first_open 0 e.outputs ≡ Some k → IsPut k P.Cut e.outputs outs
+  pub put_cut_one : (e : Element R) (outs : List Output) (was : Bool) (n : ℕ) (notes : Notes) (k : ℕ) → NotesPut e.notes notes n (outgoing k P.Cut) → e.cut ≡ true → first_open 0 e.outputs ≡ Some k → IsPut k P.Cut e.outputs outs
       → ((x : Output) → slice_get e.outputs k ≡ Some x → was ≡ x.ended)
       → (part : Part) (a : At) (poured : List (List Value)) → IsAt spec stands part e a poured
-      → WasPut part (handed_out e e.outbox outs was) a (outgoing k P.Cut) × IsAt spec stands part (handed_out e e.outbox outs was) (puts a (outgoing k P.Cut)) poured
-  put_cut_one e outs was k cut opened noted before part a poured at =
+      → WasPut part (handed_out e e.outbox outs was n notes) a (outgoing k P.Cut) × IsAt spec stands part (handed_out e e.outbox outs was n notes) (puts a (outgoing k P.Cut)) poured
+  put_cut_one e outs was n notes k notes_put cut opened noted before part a poured at =
       let is : a.cut ≡ true = sym at.spent.cut ∙ cut in
       let c = cuts_first 0 e.outputs a.pushed k opened (tells_all e.outputs a.pushed at.spent.put) in
       let count : length e.outputs ≡ outputs part = at.spent.output_count in
@@ -176,9 +187,10 @@ module _ {R : Type 0} (spec : R → Operator) (stands : R → List Event → Typ
           cuts = at.spent.cuts;
           before = put_before e outs was (outgoing k P.Cut) noted before part a poured at.spent;
           free = λ q. absurd (let clash : true ≡ false = sym is ∙ q in cc);
+          sent = (notes_put part a.kept a.pushed poured at.spent.notes).1;
         },
         record {
-          spent = put_spent e e.outbox outs was (outgoing k P.Cut) noted part a poured at.spent c.0 first (λ q. ap (drop 1) first ∙ sym c.2 ∙ ap (λ n. cuts_from 0 n (a.pushed ++ outgoing k P.Cut ∷ [])) count);
+          spent = put_spent e e.outbox outs was n notes (outgoing k P.Cut) notes_put noted part a poured at.spent c.0 first (λ q. ap (drop 1) first ∙ sym c.2 ∙ ap (λ n. cuts_from 0 n (a.pushed ++ outgoing k P.Cut ∷ [])) count);
           outbox = λ q. let clash : true ≡ false = sym is ∙ q in cc;
           tuples = at.tuples;
           kept = at.kept;
@@ -200,10 +212,12 @@ module _ {R : Type 0} (spec : R → Operator) (stands : R → List Event → Typ
       let c = cuts_first 0 e.outputs a.pushed k (sym first) (tells_all e.outputs a.pushed at.spent.put) in
       (outgoing k P.Cut, c.0, at.spent.cuts (sym at.spent.cut ∙ cut) ∙ ap (λ n. cuts_from 0 n a.pushed) (sym at.spent.output_count) ∙ c.1, refl)
 
-  pub unput_one : (e : Element R) (outbox : Outbox) (outs : List Output) (s : Outgoing) → IsSet s.output e.was_ended e.outputs outs → (e.cut ≡ false → IsFree e.outbox → waits outbox ≡ s ∷ waits e.outbox)
+  pub unput_one : (e : Element R) (outbox : Outbox) (outs : List Output) (notes : Notes) (s : Outgoing)
+      → ((part : Part) (kept : List Receipt) (pushed : List Outgoing) (poured : List (List Value)) → HasNoted part e.notes kept (pushed ++ s ∷ []) poured → (s.output < outputs part → e.was_sent ≡ sent_on s.output pushed) → HasNoted part notes kept pushed poured)
+      → IsSet s.output e.was_ended e.outputs outs → (e.cut ≡ false → IsFree e.outbox → waits outbox ≡ s ∷ waits e.outbox)
       → (part : Part) (a : At) (poured : List (List Value)) → WasPut part e a s → IsAt spec stands part e (puts a s) poured
-      → IsAt spec stands part (handed_out e outbox outs e.was_ended) a poured
-  unput_one e outbox outs s set back part a poured was at = record {
+      → IsAt spec stands part (handed_out e outbox outs e.was_ended e.was_sent notes) a poured
+  unput_one e outbox outs notes s notes_back set back part a poured was at = record {
     spent = record {
       cut = at.spent.cut;
       input_count = at.spent.input_count;
@@ -219,6 +233,7 @@ module _ {R : Type 0} (spec : R → Operator) (stands : R → List Event → Typ
       cuts = was.cuts;
       closed = at.spent.closed;
       front = at.spent.front;
+      notes = notes_back part a.kept a.pushed poured at.spent.notes was.sent;
     };
     outbox = λ q. was.front ∙ ap (λ z. s ∷ z) (sym (ap (drop 1) was.front) ∙ at.outbox q) ∙ sym (back (at.spent.cut ∙ q) (was.free q));
     tuples = at.tuples;

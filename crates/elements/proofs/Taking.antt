@@ -12,6 +12,7 @@ use Rattle.spl_value.specs.declared.value.Value.{Value}
 use Rattle.spl_value.specs.Numbered.{IsProper, closes, is_cut}
 use Rattle.stream_model.specs.Operators.{Operator}
 use Rattle.stream_model.specs.Stream.{Event, any_closes, is_closed}
+use Rattle.stream_model.specs.declared.outgoing.Outgoing.{Outgoing}
 use Rattle.network_model.specs.Adds.{adds}
 use Rattle.network_model.specs.Networks.{Part, inputs, outputs, is_sourced}
 use Rattle.network_model.specs.Receipts.{Receipt, Popped, WasRead, popped, read_in}
@@ -20,6 +21,8 @@ use Rattle.network_model.specs.States.{At, all_taken, cut_off, cuts_from, drops,
 use Rattle.network_model.proofs.Adds.{pours_law}
 use Rattle.network_model.proofs.ElementRule.{rule-cut, rule-drops, rule-keeps}
 use Rattle.network_model.proofs.Receipts.{read_in-append}
+use Rattle.element_notes.specs.Noting.{HasNoted}
+use Rattle.element_notes.specs.declared.notes.Notes.{Notes}
 use Rattle.element_outboxes.specs.declared.outbox.Outbox.{Outbox}
 use Rattle.element_works.specs.Tuples.{HasTaken, IsKept, room_of, sink_waits}
 use Rattle.element_works.specs.declared.tuples.Tuples.{Tuples}
@@ -49,19 +52,20 @@ not_cutting P.Cut h = absurd (h refl)
 
 module _ {R : Type 0} (spec : R → Operator) (stands : R → List Event → Type 0) where
   -- the element after something of it has changed
-  abbrev pub changed : Element R → Work R → List Input → Bool → Outbox → Tuples → Bool → Element R
-  changed e work ins reads outbox tuples cut = record { alloc = e.alloc; work = work; ins = e.ins; inputs = ins; reads = reads; fans = e.fans; outbox = outbox; outputs = e.outputs; was_ended = e.was_ended; tuples = tuples; cut = cut }
+  abbrev pub changed : Element R → Work R → List Input → Bool → Outbox → Tuples → Notes → Bool → Element R
+  changed e work ins reads outbox tuples notes cut = record { alloc = e.alloc; work = work; ins = e.ins; inputs = ins; reads = reads; fans = e.fans; outbox = outbox; outputs = e.outputs; was_ended = e.was_ended; was_sent = e.was_sent; tuples = tuples; notes = notes; cut = cut }
 
   -- ---- taking
 
   -- it owes for what it takes
-  keeps_one : (e : Element R) (work : Work R) (ins : List Input) (reads : Bool) (outbox : Outbox) (tuples : Tuples) (r : Receipt) (part : Part) (a : At) (poured : List (List Value)) → a.cut ≡ false
+  keeps_one : (e : Element R) (work : Work R) (ins : List Input) (reads : Bool) (outbox : Outbox) (tuples : Tuples) (notes : Notes) (r : Receipt) (part : Part) (a : At) (poured : List (List Value)) → a.cut ≡ false
       → IsAt spec stands part e a poured → length ins ≡ inputs part → ((i : ℕ) (x : Input) → slice_get ins i ≡ Some x → x ≡ noted_all new_input (popped i (a.kept ++ r ∷ [])))
       → ((i : ℕ) (s : List (Named SplType)) → slice_get e.ins i ≡ Some s → IsProper s (popped i (a.kept ++ r ∷ [])))
       → reads ≡ (is_sourced part && not (any_closes (read_in (a.kept ++ r ∷ [])))) → any_closes (read_in (a.kept ++ r ∷ [])) ≡ is_closed (read_in (a.kept ++ r ∷ []))
       → IsKept tuples → HasWorked spec stands part a.kept r work e.fans e.tuples tuples e.outbox outbox
-      → IsAt spec stands part (changed e work ins reads outbox tuples e.cut) (keeps part a r) poured
-  keeps_one e work ins reads outbox tuples r part a poured uncut at count noted propers read closed kept worked =
+      → HasNoted part notes (a.kept ++ r ∷ []) a.pushed poured
+      → IsAt spec stands part (changed e work ins reads outbox tuples notes e.cut) (keeps part a r) poured
+  keeps_one e work ins reads outbox tuples notes r part a poured uncut at count noted propers read closed kept worked has =
       let all : pours part (a.kept ++ r ∷ []) ≡ pours part a.kept ++ pours_more part a.kept r = pours_law part a.kept r in
       let front = at.spent.front in
       let longer : poured ++ (front.0 ++ pours_more part a.kept r) ≡ pours part (a.kept ++ r ∷ []) = front-more poured front.0 (pours part a.kept) (pours_more part a.kept r) (pours part (a.kept ++ r ∷ [])) front.1 all in
@@ -80,6 +84,7 @@ module _ {R : Type 0} (spec : R → Operator) (stands : R → List Event → Typ
           cuts = λ q. let clash : true ≡ false = sym q ∙ uncut in cc;
           closed = closed;
           front = (front.0 ++ pours_more part a.kept r, longer);
+          notes = has;
         };
         outbox = λ q. ap (λ z. z ++ adds part a.kept r) (at.outbox q) ∙ sym worked.owes;
         tuples = worked.pours ∙ ap (λ z. z ++ pours_more part a.kept r) was
@@ -96,10 +101,10 @@ module _ {R : Type 0} (spec : R → Operator) (stands : R → List Event → Typ
   taken_kept a e poured part uncut at = ap (λ ds. a.kept ++ ds) (at.none_dropped uncut) ∙ append-nil a.kept
 
   -- it drops what it takes
-  pub spent_more : (e : Element R) (work : Work R) (ins : List Input) (outbox : Outbox) (tuples : Tuples) (i : ℕ) (p : Packet) (part : Part) (a : At) (poured : List (List Value)) → IsNoted i p e.inputs ins
+  pub spent_more : (e : Element R) (work : Work R) (ins : List Input) (outbox : Outbox) (tuples : Tuples) (notes : Notes) (i : ℕ) (p : Packet) (part : Part) (a : At) (poured : List (List Value)) → IsNoted i p e.inputs ins
       → ((s : List (Named SplType)) → slice_get e.ins i ≡ Some s → IsProper s (popped i (all_taken a) ++ p ∷ [])) → IsSpent part e a poured
-      → IsSpent part (changed e work ins e.reads outbox tuples e.cut) (drops a (Popped i p)) poured
-  spent_more e work ins outbox tuples i p part a poured noted next spent = record {
+      → HasNoted part notes a.kept a.pushed poured → IsSpent part (changed e work ins e.reads outbox tuples notes e.cut) (drops a (Popped i p)) poured
+  spent_more e work ins outbox tuples notes i p part a poured noted next spent has = record {
     cut = spent.cut;
     input_count = noted.count ∙ spent.input_count;
     taken = inputs_more i p e.inputs ins (all_taken a) (a.kept ++ (a.dropped ++ Popped i p ∷ [])) noted (sym (append_assoc a.kept a.dropped (Popped i p ∷ []))) spent.taken;
@@ -112,16 +117,26 @@ module _ {R : Type 0} (spec : R → Operator) (stands : R → List Event → Typ
     cuts = spent.cuts;
     closed = spent.closed;
     front = spent.front;
+    notes = has;
   }
+
+  -- so it is where there was no memory
+  pub take_lacks : {A E : Type 0} (e : Element R) (work : Work R) (ins : List Input) (outbox : Outbox) (tuples : Tuples) (notes : Notes) (i : ℕ) (p : Packet) → IsNoted i p e.inputs ins
+      → ((part : Part) (kept : List Receipt) (pushed : List Outgoing) (poured : List (List Value)) → HasNoted part e.notes kept pushed poured → HasNoted part notes kept pushed poured) → (r : Result A E)
+      → IfErr r (λ _. (part : Part) (a : At) (poured : List (List Value)) → IsAt spec stands part e a poured → MayTake e.ins part a i p
+      → IsSpent part (changed e work ins e.reads outbox tuples notes e.cut) (drops a (Popped i p)) poured)
+  take_lacks e work ins outbox tuples notes i p noted same (Ok x) = tt
+  take_lacks e work ins outbox tuples notes i p noted same (Err u) =
+      λ part a poured at may. spent_more e work ins outbox tuples notes i p part a poured noted may.proper at.spent (same part a.kept a.pushed poured at.spent.notes)
 
   pub take_cut : (e : Element R) (ins : List Input) (i : ℕ) (p : Packet) → IsNoted i p e.inputs ins → e.cut ≡ true
       → (part : Part) (a : At) (poured : List (List Value)) → IsAt spec stands part e a poured → MayTake e.ins part a i p
-      → IsAt spec stands part (changed e e.work ins e.reads e.outbox e.tuples e.cut) (takes part a (Popped i p)) poured
+      → IsAt spec stands part (changed e e.work ins e.reads e.outbox e.tuples e.notes e.cut) (takes part a (Popped i p)) poured
   take_cut e ins i p noted cut part a poured at may =
       let is : a.cut ≡ true = sym at.spent.cut ∙ cut in
-      subst (λ (b : At). IsAt spec stands part (changed e e.work ins e.reads e.outbox e.tuples e.cut) b poured) (sym (cond-true a.cut (drops a (Popped i p)) _ is))
+      subst (λ (b : At). IsAt spec stands part (changed e e.work ins e.reads e.outbox e.tuples e.notes e.cut) b poured) (sym (cond-true a.cut (drops a (Popped i p)) _ is))
       (record {
-        spent = spent_more e e.work ins e.outbox e.tuples i p part a poured noted may.proper at.spent;
+        spent = spent_more e e.work ins e.outbox e.tuples e.notes i p part a poured noted may.proper at.spent at.spent.notes;
         outbox = at.outbox;
         tuples = at.tuples;
         kept = at.kept;
@@ -132,50 +147,52 @@ module _ {R : Type 0} (spec : R → Operator) (stands : R → List Event → Typ
 
   -- `Cut`
   pub take_cutting : (e next : Element R) (ins : List Input) (i : ℕ) (p : Packet) → p ≡ P.Cut → IsNoted i p e.inputs ins → e.cut ≡ false
-      → ((part : Part) (b : At) (poured : List (List Value)) → IsSpent part (changed e e.work ins e.reads e.outbox e.tuples e.cut) b poured → IsAt spec stands part next (cut_off part b) poured)
+      → ((part : Part) (b : At) (poured : List (List Value)) → IsSpent part (changed e e.work ins e.reads e.outbox e.tuples e.notes e.cut) b poured → IsAt spec stands part next (cut_off part b) poured)
       → (part : Part) (a : At) (poured : List (List Value)) → IsAt spec stands part e a poured → MayTake e.ins part a i p → IsAt spec stands part next (takes part a (Popped i p)) poured
   take_cutting e next ins i p is noted cut cuts part a poured at may =
       subst (λ (b : At). IsAt spec stands part next b poured)
       (sym (cond-false a.cut (drops a (Popped i p)) _ (sym at.spent.cut ∙ cut) ∙ cond-true (is_cut p) (cut_off part (drops a (Popped i p))) (keeps part a (Popped i p)) (ap is_cut is)))
-      (cuts part (drops a (Popped i p)) poured (spent_more e e.work ins e.outbox e.tuples i p part a poured noted may.proper at.spent))
+      (cuts part (drops a (Popped i p)) poured (spent_more e e.work ins e.outbox e.tuples e.notes i p part a poured noted may.proper at.spent at.spent.notes))
 
-  pub take_more : (e : Element R) (work : Work R) (ins : List Input) (outbox : Outbox) (tuples : Tuples) (i : ℕ) (p : Packet) → is_cut p ≡ false → IsNoted i p e.inputs ins → e.cut ≡ false → IsKept tuples
+  pub take_more : (e : Element R) (work : Work R) (ins : List Input) (outbox : Outbox) (tuples : Tuples) (notes : Notes) (i : ℕ) (p : Packet) → is_cut p ≡ false → IsNoted i p e.inputs ins → e.cut ≡ false → IsKept tuples
       → ((part : Part) (T : List Receipt) → WorkAt spec stands part T e.work e.fans e.tuples → MayWork part T (Popped i p) → HasWorked spec stands part T (Popped i p) work e.fans e.tuples tuples e.outbox outbox)
       → (part : Part) (a : At) (poured : List (List Value)) → IsAt spec stands part e a poured → MayTake e.ins part a i p
-      → IsAt spec stands part (changed e work ins e.reads outbox tuples e.cut) (takes part a (Popped i p)) poured
-  take_more e work ins outbox tuples i p uncutting noted cut kept run part a poured at may =
+      → (a.cut ≡ false → HasNoted part notes (a.kept ++ Popped i p ∷ []) a.pushed poured)
+      → IsAt spec stands part (changed e work ins e.reads outbox tuples notes e.cut) (takes part a (Popped i p)) poured
+  take_more e work ins outbox tuples notes i p uncutting noted cut kept run part a poured at may has =
       let uncut : a.cut ≡ false = sym at.spent.cut ∙ cut in
       let same : read_in (a.kept ++ Popped i p ∷ []) ≡ read_in a.kept = not-read a.kept i p in
-      subst (λ (b : At). IsAt spec stands part (changed e work ins e.reads outbox tuples e.cut) b poured)
+      subst (λ (b : At). IsAt spec stands part (changed e work ins e.reads outbox tuples notes e.cut) b poured)
       (sym (cond-false a.cut (drops a (Popped i p)) _ uncut ∙ cond-false (is_cut p) (cut_off part (drops a (Popped i p))) (keeps part a (Popped i p)) uncutting))
-      (keeps_one e work ins e.reads outbox tuples (Popped i p) part a poured uncut at (noted.count ∙ at.spent.input_count)
+      (keeps_one e work ins e.reads outbox tuples notes (Popped i p) part a poured uncut at (noted.count ∙ at.spent.input_count)
       (inputs_more i p e.inputs ins (all_taken a) (a.kept ++ Popped i p ∷ []) noted (ap (λ T. T ++ Popped i p ∷ []) (sym (taken_kept a e poured part uncut at))) at.spent.taken)
       (proper_more e.ins (all_taken a) (a.kept ++ Popped i p ∷ []) i p (ap (λ T. T ++ Popped i p ∷ []) (sym (taken_kept a e poured part uncut at))) at.spent.proper may.proper)
-      (at.reads uncut ∙ ap (λ xs. is_sourced part && not (any_closes xs)) (sym same)) (ap any_closes same ∙ at.spent.closed ∙ ap is_closed (sym same)) kept (run part a.kept (at.work uncut) (may.works uncut)))
+      (at.reads uncut ∙ ap (λ xs. is_sourced part && not (any_closes xs)) (sym same)) (ap any_closes same ∙ at.spent.closed ∙ ap is_closed (sym same)) kept (run part a.kept (at.work uncut) (may.works uncut)) (has uncut))
 
   -- ---- reading
 
-  pub read_one : (e : Element R) (work : Work R) (reads : Bool) (outbox : Outbox) (tuples : Tuples) (x : Item) → IsKept tuples
+  pub read_one : (e : Element R) (work : Work R) (reads : Bool) (outbox : Outbox) (tuples : Tuples) (notes : Notes) (x : Item) → IsKept tuples
       → ((part : Part) (T : List Receipt) → WorkAt spec stands part T e.work e.fans e.tuples → MayWork part T (WasRead x) → HasWorked spec stands part T (WasRead x) work e.fans e.tuples tuples e.outbox outbox)
       → (part : Part) (a : At) (poured : List (List Value)) → IsAt spec stands part e a poured → MayRead part a x → reads ≡ not (closes x)
-      → IsAt spec stands part (changed e work e.inputs reads outbox tuples e.cut) (takes part a (WasRead x)) poured
-  read_one e work reads outbox tuples x kept run part a poured at may on =
+      → HasNoted part notes (a.kept ++ WasRead x ∷ []) a.pushed poured
+      → IsAt spec stands part (changed e work e.inputs reads outbox tuples notes e.cut) (takes part a (WasRead x)) poured
+  read_one e work reads outbox tuples notes x kept run part a poured at may on has =
       let uncut : a.cut ≡ false = may.still.whole in
       let all : read_in (a.kept ++ WasRead x ∷ []) ≡ read_in a.kept ++ x ∷ [] = read_in-append a.kept (WasRead x ∷ []) in
       let last = closes-last (read_in a.kept) x may.still.unclosed in
-      subst (λ (b : At). IsAt spec stands part (changed e work e.inputs reads outbox tuples e.cut) b poured) (sym (cond-false a.cut (drops a (WasRead x)) (keeps part a (WasRead x)) uncut))
-      (keeps_one e work e.inputs reads outbox tuples (WasRead x) part a poured uncut at at.spent.input_count
+      subst (λ (b : At). IsAt spec stands part (changed e work e.inputs reads outbox tuples notes e.cut) b poured) (sym (cond-false a.cut (drops a (WasRead x)) (keeps part a (WasRead x)) uncut))
+      (keeps_one e work e.inputs reads outbox tuples notes (WasRead x) part a poured uncut at at.spent.input_count
       (λ i y got. at.spent.taken i y got ∙ ap (λ T. noted_all new_input (popped i T)) (taken_kept a e poured part uncut at) ∙ ap (noted_all new_input) (sym (not-popped i a.kept x)))
       (λ i s got. subst (IsProper s) (ap (popped i) (taken_kept a e poured part uncut at) ∙ sym (not-popped i a.kept x)) (at.spent.proper i s got))
       (on ∙ ap not (sym last.0 ∙ ap any_closes (sym all)) ∙ ap (λ b. b && not (any_closes (read_in (a.kept ++ WasRead x ∷ [])))) (sym may.still.sourced))
-      (ap any_closes all ∙ last.0 ∙ sym last.1 ∙ ap is_closed (sym all)) kept (run part a.kept (at.work uncut) may.works))
+      (ap any_closes all ∙ last.0 ∙ sym last.1 ∙ ap is_closed (sym all)) kept (run part a.kept (at.work uncut) may.works) has)
 
   -- a source that is still to be read
   pub still_on : (e : Element R) (part : Part) (a : At) (poured : List (List Value)) (x : Item) → IsAt spec stands part e a poured → MayRead part a x → e.reads ≡ true
   still_on e part a poured x at may = at.reads may.still.whole ∙ ap (λ b. b && not (any_closes (read_in a.kept))) may.still.sourced ∙ ap not may.still.unclosed
 
   pub read_lacks : (e : Element R) (work : Work R) (reads : Bool) (outbox : Outbox) (tuples : Tuples) (x : Item) (part : Part) (a : At) (poured : List (List Value)) → IsAt spec stands part e a poured
-      → IsSpent part (changed e work e.inputs reads outbox tuples e.cut) (drops a (WasRead x)) poured
+      → IsSpent part (changed e work e.inputs reads outbox tuples e.notes e.cut) (drops a (WasRead x)) poured
   read_lacks e work reads outbox tuples x part a poured at = record {
     cut = at.spent.cut;
     input_count = at.spent.input_count;
@@ -189,6 +206,7 @@ module _ {R : Type 0} (spec : R → Operator) (stands : R → List Event → Typ
     cuts = at.spent.cuts;
     closed = at.spent.closed;
     front = at.spent.front;
+    notes = at.spent.notes;
   }
 
   -- ---- pouring
@@ -199,12 +217,13 @@ module _ {R : Type 0} (spec : R → Operator) (stands : R → List Event → Typ
       let f = at.spent.front in
       ap (λ z. poured ++ z) (at.tuples ∙ cond-false a.cut [] (drop (length poured) (pours part a.kept)) uncut ∙ behind poured f.0 (pours part a.kept) f.1) ∙ f.1
 
-  pub pour_one : (e : Element R) (t : Tuples) (tuple : List Value) → sink_waits e.tuples ≡ tuple ∷ sink_waits t → IsKept t → room_of t ≡ room_of e.tuples
+  pub pour_one : (e : Element R) (t : Tuples) (notes : Notes) (tuple : List Value) → sink_waits e.tuples ≡ tuple ∷ sink_waits t → IsKept t → room_of t ≡ room_of e.tuples
       → (part : Part) (a : At) (poured : List (List Value)) → IsAt spec stands part e a poured
-      → Poured part a poured tuple × IsAt spec stands part (changed e e.work e.inputs e.reads e.outbox t e.cut) a (poured ++ tuple ∷ [])
-  pour_one e t tuple next kept room part a poured at = go a.cut refl
+      → HasNoted part notes a.kept a.pushed (poured ++ tuple ∷ [])
+      → Poured part a poured tuple × IsAt spec stands part (changed e e.work e.inputs e.reads e.outbox t notes e.cut) a (poured ++ tuple ∷ [])
+  pour_one e t notes tuple next kept room part a poured at has = go a.cut refl
     where
-      go : (b : Bool) → a.cut ≡ b → Poured part a poured tuple × IsAt spec stands part (changed e e.work e.inputs e.reads e.outbox t e.cut) a (poured ++ tuple ∷ [])
+      go : (b : Bool) → a.cut ≡ b → Poured part a poured tuple × IsAt spec stands part (changed e e.work e.inputs e.reads e.outbox t notes e.cut) a (poured ++ tuple ∷ [])
       go true q = let clash : tuple ∷ sink_waits t ≡ [] = sym next ∙ at.tuples ∙ cond-true a.cut [] (drop (length poured) (pours part a.kept)) q in cc
       go false q =
           let whole : (poured ++ tuple ∷ []) ++ sink_waits t ≡ pours part a.kept = append_assoc poured (tuple ∷ []) (sink_waits t) ∙ ap (λ z. poured ++ z) (sym next) ∙ poured_rest e part a poured at q in (
@@ -223,6 +242,7 @@ module _ {R : Type 0} (spec : R → Operator) (stands : R → List Event → Typ
                 cuts = at.spent.cuts;
                 closed = at.spent.closed;
                 front = (sink_waits t, whole);
+                notes = has;
               };
               outbox = at.outbox;
               tuples = sym (behind (poured ++ tuple ∷ []) (sink_waits t) (pours part a.kept) whole) ∙ sym (cond-false a.cut [] (drop (length (poured ++ tuple ∷ [])) (pours part a.kept)) q);
@@ -235,7 +255,7 @@ module _ {R : Type 0} (spec : R → Operator) (stands : R → List Event → Typ
 
   pub pour_none : (e : Element R) (t : Tuples) → sink_waits e.tuples ≡ [] → sink_waits t ≡ [] → IsKept t → room_of t ≡ room_of e.tuples
       → (part : Part) (a : At) (poured : List (List Value)) → IsAt spec stands part e a poured
-      → (waiting part a poured ≡ []) × IsAt spec stands part (changed e e.work e.inputs e.reads e.outbox t e.cut) a poured
+      → (waiting part a poured ≡ []) × IsAt spec stands part (changed e e.work e.inputs e.reads e.outbox t e.notes e.cut) a poured
   pour_none e t none now kept room part a poured at = (
     sym at.tuples ∙ none,
     record {
@@ -252,6 +272,7 @@ module _ {R : Type 0} (spec : R → Operator) (stands : R → List Event → Typ
         cuts = at.spent.cuts;
         closed = at.spent.closed;
         front = at.spent.front;
+        notes = at.spent.notes;
       };
       outbox = at.outbox;
       tuples = now ∙ sym none ∙ at.tuples;
@@ -262,28 +283,14 @@ module _ {R : Type 0} (spec : R → Operator) (stands : R → List Event → Typ
     },
   )
 
-  pub pour_next : (e : Element R) (t : Tuples) (next : Option (List Value)) → MatchOption next ((sink_waits e.tuples ≡ []) × (sink_waits t ≡ [])) (λ vs. sink_waits e.tuples ≡ vs ∷ sink_waits t) → IsKept t → room_of t ≡ room_of e.tuples
-      → (part : Part) (a : At) (poured : List (List Value)) → IsAt spec stands part e a poured
-      → MatchOption next ((waiting part a poured ≡ []) × IsAt spec stands part (changed e e.work e.inputs e.reads e.outbox t e.cut) a poured)
-      (λ tuple. Poured part a poured tuple × IsAt spec stands part (changed e e.work e.inputs e.reads e.outbox t e.cut) a (poured ++ tuple ∷ []))
-  pour_next e t None next kept room part a poured at = pour_none e t next.0 next.1 kept room part a poured at
-  pour_next e t (Some vs) next kept room part a poured at = pour_one e t vs next kept room part a poured at
-
-  pub pour_over : (e : Element R) (t : Tuples) (some : Bool) (vs : List Value) → HasTaken some vs (sink_waits e.tuples) (sink_waits t) → IsKept t → room_of t ≡ room_of e.tuples
-      → (part : Part) (a : At) (poured : List (List Value)) → IsAt spec stands part e a poured
-      → (some ≡ true → Poured part a poured vs × IsAt spec stands part (changed e e.work e.inputs e.reads e.outbox t e.cut) a (poured ++ vs ∷ []))
-      × (some ≡ false → (waiting part a poured ≡ []) × IsAt spec stands part (changed e e.work e.inputs e.reads e.outbox t e.cut) a poured)
-  pour_over e t true vs took kept room part a poured at = (λ q. pour_one e t vs took kept room part a poured at, λ q. let clash : true ≡ false = q in cc)
-  pour_over e t false vs took kept room part a poured at = (λ q. let clash : false ≡ true = q in cc, λ q. pour_none e t took.0 took.1 kept room part a poured at)
-
   -- ---- cutting
 
   pub cut_one : (e : Element R) (outbox : Outbox) (t : Tuples) → sink_waits t ≡ [] → IsKept t → (part : Part) (a : At) (poured : List (List Value)) → IsSpent part e a poured
-      → IsAt spec stands part (changed e e.work e.inputs e.reads outbox t true) (cut_off part a) poured
+      → IsAt spec stands part (changed e e.work e.inputs e.reads outbox t e.notes true) (cut_off part a) poured
   cut_one e outbox t none kept part a poured spent = go a.cut refl
     where
-      go : (b : Bool) → a.cut ≡ b → IsAt spec stands part (changed e e.work e.inputs e.reads outbox t true) (cut_off part a) poured
-      go true q = subst (λ (b : At). IsAt spec stands part (changed e e.work e.inputs e.reads outbox t true) b poured) (sym (cond-true a.cut a _ q)) (record {
+      go : (b : Bool) → a.cut ≡ b → IsAt spec stands part (changed e e.work e.inputs e.reads outbox t e.notes true) (cut_off part a) poured
+      go true q = subst (λ (b : At). IsAt spec stands part (changed e e.work e.inputs e.reads outbox t e.notes true) b poured) (sym (cond-true a.cut a _ q)) (record {
         spent = record {
           cut = sym q;
           input_count = spent.input_count;
@@ -297,6 +304,7 @@ module _ {R : Type 0} (spec : R → Operator) (stands : R → List Event → Typ
           cuts = spent.cuts;
           closed = spent.closed;
           front = spent.front;
+          notes = spent.notes;
         };
         outbox = λ u. let clash : true ≡ false = sym q ∙ u in cc;
         tuples = none ∙ sym (cond-true a.cut [] (drop (length poured) (pours part a.kept)) q);
@@ -305,7 +313,7 @@ module _ {R : Type 0} (spec : R → Operator) (stands : R → List Event → Typ
         reads = λ u. let clash : true ≡ false = sym q ∙ u in cc;
         work = λ u. absurd (let clash : true ≡ false = sym q ∙ u in cc);
       })
-      go false q = subst (λ (b : At). IsAt spec stands part (changed e e.work e.inputs e.reads outbox t true) b poured)
+      go false q = subst (λ (b : At). IsAt spec stands part (changed e e.work e.inputs e.reads outbox t e.notes true) b poured)
           (sym (cond-false a.cut a (record { kept = a.kept; dropped = a.dropped; pushed = a.pushed; outbox = cuts_from 0 (outputs part) a.pushed; cut = true }) q)) (record {
             spent = record {
               cut = refl;
@@ -320,6 +328,7 @@ module _ {R : Type 0} (spec : R → Operator) (stands : R → List Event → Typ
               cuts = λ u. refl;
               closed = spent.closed;
               front = spent.front;
+              notes = spent.notes;
             };
             outbox = λ u. let clash : true ≡ false = u in cc;
             tuples = none;

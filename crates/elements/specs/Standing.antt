@@ -1,5 +1,5 @@
 -- For which state an element stands.
-use Rattle.std.specs.Prelude.{◌≡◌, ◌<◌, ◌^◌, ℕ, ◌&&◌, ◌||◌, not, true, false, List, [], ◌∷◌, ◌++◌, length, slice_get, Some}
+use Rattle.std.specs.Prelude.{◌≡◌, ◌<◌, ◌≤◌, ◌^◌, ℕ, ◌&&◌, ◌||◌, not, true, false, List, [], ◌∷◌, ◌++◌, length, slice_get, Some}
 use Rattle.spl_value.specs.declared.item.Item.{Item}
 use Rattle.spl_value.specs.declared.packet.Packet.{Packet}
 use Rattle.spl_value.specs.declared.value.Value.{Value}
@@ -17,6 +17,8 @@ use Rattle.network_model.specs.Packets.{has_last}
 use Rattle.network_model.specs.Receipts.{Popped, WasRead, popped, read_in}
 use Rattle.network_model.specs.Sinks.{pours}
 use Rattle.network_model.specs.States.{At, all_taken, cuts_from, waiting}
+use Rattle.element_notes.specs.Endings.{sent_on}
+use Rattle.element_notes.specs.Noting.{HasNoted}
 use Rattle.element_outboxes.specs.Waiting.{IsFree, waits}
 use Rattle.element_works.specs.Tuples.{IsKept, sink_waits}
 use Rattle.elements.specs.declared.element.Element.{Element}
@@ -43,6 +45,7 @@ pub record IsSpent {R : Type 0} (part : Part) (e : Element R) (a : At) (poured :
   pub cuts : a.cut ≡ true → a.outbox ≡ cuts_from 0 (outputs part) a.pushed
   pub closed : any_closes (read_in a.kept) ≡ is_closed (read_in a.kept)
   pub front : IsPrefix poured (pours part a.kept)
+  pub notes : HasNoted part e.notes a.kept a.pushed poured
 
 -- an element of this part in this state, which has poured these tuples
 pub record IsAt {R : Type 0} (spec : R → Operator) (stands : R → List Event → Type 0) (part : Part) (e : Element R)
@@ -84,6 +87,10 @@ pub record ComesNext (schema : List (Named SplType)) (part : Part) (a : At) (inp
   pub wanted : (not (has_last (popped input (all_taken a))) && (a.cut || wants_at part a input)) ≡ true
   pub proper : IsProper schema (popped input (all_taken a) ++ packet ∷ [])
 
+-- a packet may be put: not too many were put on any output
+abbrev pub MayPut : Part → At → Type 0
+MayPut part a = (o : ℕ) → o < outputs part → length (on_output o a.pushed) ≤ 2 ^ 61
+
 -- what it does next
 abbrev pub IsNext : Part → At → Next → Type 0
 IsNext part a (N.Put output) = (s : Outgoing) × (rest : List Outgoing) × (a.outbox ≡ s ∷ rest) × (s.output ≡ output)
@@ -98,6 +105,7 @@ pub record WasPut {R : Type 0} (part : Part) (e : Element R) (a : At) (s : Outgo
   pub cuts : a.cut ≡ true → a.outbox ≡ cuts_from 0 (outputs part) a.pushed
   pub before : (x : Output) → slice_get e.outputs s.output ≡ Some x → e.was_ended ≡ has_last (on_output s.output a.pushed)
   pub free : a.cut ≡ false → IsFree e.outbox
+  pub sent : s.output < outputs part → e.was_sent ≡ sent_on s.output a.pushed
 
 -- a tuple is the first that waits for the sink, where these were poured
 abbrev pub Poured : Part → At → List (List Value) → List Value → Type 0

@@ -1,5 +1,5 @@
 -- For what the work of an element stands, and what it may take.
-use Rattle.std.specs.Prelude.{◌≡◌, ◌<◌, ◌≤◌, ◌^◌, ℕ, Bool, true, false, List, [], ◌∷◌, ◌++◌, length, map}
+use Rattle.std.specs.Prelude.{◌≡◌, ◌<◌, ◌≤◌, ◌^◌, ◌&&◌, not, ℕ, Bool, true, false, List, [], ◌∷◌, ◌++◌, length, map}
 use Rattle.spl_value.specs.declared.item.Item.{Item}
 use Rattle.spl_value.specs.declared.packet.Packet.{Packet}
 use Rattle.spl_value.specs.declared.packet.Packet.TheVariants as P
@@ -10,14 +10,14 @@ use Rattle.order_merger.specs.Merging.{Turning, TurnStands, Numbering, NumberSta
 use Rattle.stream_model.specs.Fans.{ports_of_fans}
 use Rattle.stream_model.specs.Operators.{Operator}
 use Rattle.stream_model.specs.Sending.{stages_after}
-use Rattle.stream_model.specs.Stages.{Stage, start}
+use Rattle.stream_model.specs.Stages.{Stage, stage_after, start}
 use Rattle.stream_model.specs.Stream.{Event, came, any_closes}
 use Rattle.network_model.specs.Adds.{adds}
 use Rattle.network_model.specs.Legal.{wants as may_pop}
 use Rattle.network_model.specs.Networks.{Part, RegionPart, FromSource, FromLinks, Splitter, Replica, Merger}
 use Rattle.network_model.specs.Owed.{taken_of}
 use Rattle.network_model.specs.Packets.{has_last, items_in}
-use Rattle.network_model.specs.Receipts.{Receipt, Popped, WasRead, popped}
+use Rattle.network_model.specs.Receipts.{Receipt, Popped, WasRead, item_events, popped}
 use Rattle.network_model.specs.Sinks.{pours_more}
 use Rattle.operator_chains.specs.Standing.{MayFeed}
 use Rattle.element_outboxes.specs.Waiting.{waits}
@@ -112,6 +112,25 @@ MayWork (Replica region channel) receipts (Popped i packet) =
     (i ≡ 0) × Comes (stages_after (map start region.ops) (items_in (popped 0 receipts))) packet
 MayWork (Merger region outs) receipts (Popped i packet) = Merges region outs receipts i packet
 MayWork part receipts receipt = ⊥
+
+-- ---- what is an event
+
+abbrev pub is_item : Packet → Bool
+is_item (P.Item number item) = true
+is_item (P.Pulse number) = false
+is_item P.Close = false
+is_item P.Cut = false
+
+-- a packet that is popped behind these receipts is an event of the first operator of a chain, which hasn't ended
+abbrev pub is_event_of : Part → List Receipt → Packet → Bool
+is_event_of (FromSource source ops outs) receipts packet = false
+is_event_of (FromLinks op ops outs) receipts packet =
+    is_item packet && not (stage_after (start op) (item_events receipts)).over
+is_event_of (Splitter region) receipts packet = false
+is_event_of (Replica region channel) receipts packet = false
+is_event_of (Merger region outs) receipts packet = false
+
+-- ---- what it has taken
 
 -- it has taken it: what it owes for it waits, and so do the tuples for its sink
 pub record HasWorked {R : Type 0} (spec : R → Operator) (stands : R → List Event → Type 0) (part : Part)

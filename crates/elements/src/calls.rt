@@ -11,15 +11,17 @@ ghost use Rattle.network_model.specs.Networks.{Part, inputs};
 ghost use Rattle.network_model.specs.Packets.{has_last};
 ghost use Rattle.network_model.specs.Receipts.{Popped, WasRead, popped};
 ghost use Rattle.network_model.specs.States.{At, all_taken, cut_off, drops, puts, takes, waiting};
+ghost use Rattle.element_notes.specs.Endings.{arrivals_of, ends_of, poured_count, sent_of};
 ghost use Rattle.elements.specs.declared.input.Input.{Input as InputSpec};
 ghost use Rattle.elements.specs.Inputs.{follows};
-ghost use Rattle.elements.specs.Standing.{ComesNext, IsAt, IsNext, IsSpent, MayRead, MayTake, Poured, WasPut, schemas_of};
+ghost use Rattle.elements.specs.Standing.{ComesNext, IsAt, IsNext, IsSpent, MayPut, MayRead, MayTake, Poured, WasPut, schemas_of};
 
 use crate::element::Element;
 use crate::input::{all_ended, note_taken};
 use crate::next::Next;
 use crate::output::{first_open, note_put, set_ended};
-use crate::work::{Work, work_takes, work_wants};
+use crate::work::{Work, is_recorded, work_takes, work_wants};
+use element_notes::Ending;
 use element_outboxes::closes;
 use element_works::{run_chain, run_tuple};
 use spl_value::{Item, NoMemory, Packet, Values};
@@ -37,6 +39,7 @@ impl<R: React> Element<R> {
         ensures schemas { schemas_of self.new ≡ schemas_of self.old }
     {
         self.reads = !closes(&item);
+        let how = self.notes.how().behind(&item);
         let Work::Chain(chain) = &mut self.work else {
             unreachable!()
         };
@@ -48,7 +51,9 @@ impl<R: React> Element<R> {
             &mut self.tuples,
             0,
             item,
-        )
+        )?;
+        self.notes.take(false, 0, chain.how(how));
+        Ok(())
     }
 
     /// Reads a tuple of the source. Another tuple comes back in its place, to be written over.
@@ -72,7 +77,10 @@ impl<R: React> Element<R> {
             &mut self.tuples,
             0,
             tuple,
-        )
+        )?;
+        let how = chain.how(self.notes.how());
+        self.notes.take(false, 0, how);
+        Ok(())
     }
 
     /// Takes a packet from an input. Where there is no memory the packet counts as taken, and the element is to be cut.
@@ -93,7 +101,9 @@ impl<R: React> Element<R> {
             self.cut();
             return Ok(());
         }
-        work_takes(
+        let recorded = is_recorded(&self.notes, &self.work, &packet);
+        self.notes.reserve(recorded)?;
+        let how = work_takes(
             self.alloc,
             &mut self.work,
             &self.fans,
@@ -101,13 +111,16 @@ impl<R: React> Element<R> {
             &mut self.tuples,
             input,
             packet,
-        )
+            self.notes.how(),
+        )?;
+        self.notes.take(recorded, input, how);
+        Ok(())
     }
 
     /// Takes the packet out that is to be put next, with the number of its output.
     #[inline(always)]
     pub fn put(&mut self) -> Option<(u32, Packet)>
-        requires may { (part : Part) × (a : At) × (poured : List (List Value)) × IsAt R.spec R.stands part self.old a poured }
+        requires may { (part : Part) × (a : At) × (poured : List (List Value)) × IsAt R.spec R.stands part self.old a poured × MayPut part a }
         ensures puts { (part : Part) (a : At) (poured : List (List Value)) → IsAt R.spec R.stands part self.old a poured → MatchOption result
             ((a.outbox ≡ []) × IsAt R.spec R.stands part self.new a poured)
             (λ p. WasPut part self.new a (outgoing p.0 p.1) × IsAt R.spec R.stands part self.new (puts a (outgoing p.0 p.1)) poured) }
@@ -120,6 +133,7 @@ impl<R: React> Element<R> {
             Some(waiting) => {
                 let (output, packet) = (waiting.output, waiting.packet);
                 self.was_ended = note_put(&mut self.outputs, output, &packet);
+                self.was_sent = self.notes.put(output, &packet);
                 Some((output, packet))
             }
             None => None,
@@ -130,7 +144,7 @@ impl<R: React> Element<R> {
     #[cold]
     fn put_cut(&mut self) -> Option<(u32, Packet)>
         requires cut { self.old.cut ≡ true }
-        requires may { (part : Part) × (a : At) × (poured : List (List Value)) × IsAt R.spec R.stands part self.old a poured }
+        requires may { (part : Part) × (a : At) × (poured : List (List Value)) × IsAt R.spec R.stands part self.old a poured × MayPut part a }
         ensures puts { (part : Part) (a : At) (poured : List (List Value)) → IsAt R.spec R.stands part self.old a poured → MatchOption result
             ((a.outbox ≡ []) × IsAt R.spec R.stands part self.new a poured)
             (λ p. WasPut part self.new a (outgoing p.0 p.1) × IsAt R.spec R.stands part self.new (puts a (outgoing p.0 p.1)) poured) }
@@ -140,6 +154,7 @@ impl<R: React> Element<R> {
             Some(output) => {
                 let packet = Packet::Cut;
                 self.was_ended = note_put(&mut self.outputs, output, &packet);
+                self.was_sent = self.notes.put(output, &packet);
                 Some((output, packet))
             }
             None => None,
@@ -155,6 +170,7 @@ impl<R: React> Element<R> {
         ensures schemas { schemas_of self.new ≡ schemas_of self.old }
     {
         set_ended(&mut self.outputs, output, self.was_ended);
+        self.notes.unput(output, self.was_sent);
         if !self.cut {
             self.outbox.give_back(output, packet);
         }
@@ -262,7 +278,13 @@ impl<R: React> Element<R> {
             (λ tuple. Poured part a poured tuple × IsAt R.spec R.stands part self.new a (poured ++ tuple ∷ [])) }
         ensures schemas { schemas_of self.new ≡ schemas_of self.old }
     {
-        self.tuples.next(self.alloc)
+        match self.tuples.next(self.alloc) {
+            Some(tuple) => {
+                self.notes.pour();
+                Some(tuple)
+            }
+            None => None,
+        }
     }
 
     /// Puts the next tuple for the sink in place of this one, whose memory is kept. `false` where none waits.
@@ -275,7 +297,12 @@ impl<R: React> Element<R> {
             → result ≡ false → (waiting part a poured ≡ []) × IsAt R.spec R.stands part self.new a poured }
         ensures schemas { schemas_of self.new ≡ schemas_of self.old }
     {
-        self.tuples.next_over(tuple)
+        if self.tuples.next_over(tuple) {
+            self.notes.pour();
+            true
+        } else {
+            false
+        }
     }
 
     /// Cuts the element: what waits is dropped, and `Cut` waits on each output on which neither `Close` nor `Cut` was put.
@@ -287,5 +314,32 @@ impl<R: React> Element<R> {
         self.cut = true;
         self.outbox.clear();
         self.tuples.clear();
+    }
+
+    /// What the element tells: its record, how its ends ended for what it has taken, how many items were put on each output
+    /// and how many tuples were handed out for its sink, and whether it was cut. It takes no memory.
+    pub fn finish(self) -> Ending
+        ensures arrivals { (part : Part) (a : At) (poured : List (List Value)) → IsSpent part self a poured → result.arrivals ≡ arrivals_of part a.kept }
+        ensures ends { (part : Part) (a : At) (poured : List (List Value)) → IsSpent part self a poured → result.ends ≡ ends_of part a.kept }
+        ensures sent { (part : Part) (a : At) (poured : List (List Value)) → IsSpent part self a poured → result.sent ≡ sent_of part a.pushed }
+        ensures tuples { (part : Part) (a : At) (poured : List (List Value)) → IsSpent part self a poured → result.tuples ≡ poured_count poured }
+        ensures cut { (part : Part) (a : At) (poured : List (List Value)) → IsSpent part self a poured → result.cut ≡ a.cut }
+    {
+        let Element {
+            alloc: _,
+            work: _,
+            ins: _,
+            inputs: _,
+            reads: _,
+            fans: _,
+            outbox: _,
+            outputs: _,
+            was_ended: _,
+            was_sent: _,
+            tuples: _,
+            notes,
+            cut,
+        } = self;
+        notes.finish(cut)
     }
 }

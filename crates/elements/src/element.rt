@@ -2,6 +2,7 @@
 use crate::input::Input;
 use crate::output::Output;
 use crate::work::Work;
+use element_notes::Notes;
 use element_outboxes::{Fan, Outbox};
 use element_works::Tuples;
 use spl_value::{Items, Schema};
@@ -22,6 +23,9 @@ pub struct Element<R> {
     pub(crate) outputs: Items<Output>,
     /// Whether `Close` or `Cut` was on its output already when the last packet was put.
     pub(crate) was_ended: bool,
+    /// How many items had been put on its output then.
+    pub(crate) was_sent: u64,
     pub(crate) tuples: Tuples,
+    pub(crate) notes: Notes,
     pub(crate) cut: bool,
 }

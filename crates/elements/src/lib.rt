@@ -13,7 +13,7 @@ mod work;
 
 pub use element::Element;
 pub use input::Input;
-pub use laws::work_law;
+pub use laws::{poured_law, work_law};
 pub use next::Next;
 pub use output::Output;
 pub use part::ElementPart;

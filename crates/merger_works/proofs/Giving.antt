@@ -15,9 +15,12 @@ use Rattle.channel_heads.specs.Held.{Held, head_at, no_heads, takes, gives_head}
 use Rattle.channel_heads.proofs.Fronts.{order_law}
 use Rattle.network_model.specs.Networks.{RegionPart, Merger}
 use Rattle.network_model.specs.Receipts.{Receipt, Popped, popped}
-use Rattle.network_model.specs.Adds.{adds}
+use Rattle.network_model.specs.Adds.{adds, merged_for}
 use Rattle.network_model.specs.Owed.{send_all}
 use Rattle.network_model.proofs.Receipts.{popped-append}
+use Rattle.operator_chains.specs.declared.how.How.{How}
+use Rattle.operator_chains.specs.Hows.{how_behind, stream_how}
+use Rattle.operator_chains.proofs.Ending.{stream_how-more}
 use Rattle.element_outboxes.specs.declared.fan.Fan.{Fan}
 use Rattle.element_outboxes.specs.declared.outbox.Outbox.{Outbox}
 use Rattle.element_outboxes.specs.Waiting.{all_out, fans_from, waits}
@@ -75,17 +78,18 @@ order_before rule width receipts receipt order =
 -- ---- what is given
 
 -- while it gives: these items besides those that it had given
-pub record IsGiving {M : Type 0} (held : M → Held) (stands : ℕ → M → (ℕ → List Packet) → List Item → Type 0) (width : ℕ) (counts : List ℕ) (taken : ℕ → List Packet) (given : List Item) (m : M) (before now : Outbox) : Type 0 where
+pub record IsGiving {M : Type 0} (held : M → Held) (stands : ℕ → M → (ℕ → List Packet) → List Item → Type 0) (width : ℕ) (counts : List ℕ) (taken : ℕ → List Packet) (given : List Item) (m : M) (before now : Outbox) (stood_so stands_so : How) : Type 0 where
   pub more : List Item
   pub stood : stands width m taken (given ++ more)
   pub uncut : (held m).cut ≡ false
   pub sends : waits now ≡ waits before ++ all_out counts (map (output 0) more)
+  pub how : stood_so ≡ stream_how given → stands_so ≡ stream_how (given ++ more)
 
 -- whatever it had taken before the packet
-abbrev pub Giving : {M : Type 0} → (M → Held) → (ℕ → M → (ℕ → List Packet) → List Item → Type 0) → Rule → M → List Fan → ℕ → Packet → M → Outbox → Outbox → Type 0
-Giving held stands rule old fans channel packet m before now =
+abbrev pub Giving : {M : Type 0} → (M → Held) → (ℕ → M → (ℕ → List Packet) → List Item → Type 0) → Rule → M → List Fan → ℕ → Packet → M → Outbox → Outbox → How → How → Type 0
+Giving held stands rule old fans channel packet m before now h j =
     (width : ℕ) (counts : List ℕ) (receipts : List Receipt) (at : MergerAt held stands rule width counts receipts old fans)
-    → IsGiving held stands width counts (with_packet (λ c. popped c receipts) channel packet) at.given m before now
+    → IsGiving held stands width counts (with_packet (λ c. popped c receipts) channel packet) at.given m before now h j
 
 uncut_takes : (c : ℕ) (p : Packet) (h : Held) → is_cut p ≡ false → (takes c p h).cut ≡ h.cut
 uncut_takes c (P.Item n x) h e = refl
@@ -94,22 +98,23 @@ uncut_takes c P.Close h e = refl
 uncut_takes c P.Cut h e = let clash : true ≡ false = e in cc
 
 module _ {M : Type 0} (held : M → Held) (stands : ℕ → M → (ℕ → List Packet) → List Item → Type 0) (rule : Rule) where
-  pub first_giving : (old new : M) (fans : List Fan) (channel : ℕ) (p : Packet) (before : Outbox) → is_cut p ≡ false → held new ≡ takes channel p (held old)
+  pub first_giving : (old new : M) (fans : List Fan) (channel : ℕ) (p : Packet) (before : Outbox) (h : How) → is_cut p ≡ false → held new ≡ takes channel p (held old)
       → ((width : ℕ) (taken : ℕ → List Packet) (given : List Item) → stands width old taken given → stands width new (with_packet taken channel p) given)
-      → Giving held stands rule old fans channel p new before before
-  first_giving old new fans channel p before uncut is took width counts receipts at = record {
+      → Giving held stands rule old fans channel p new before before h h
+  first_giving old new fans channel p before h uncut is took width counts receipts at = record {
     more = [];
     stood = subst (λ given. stands width new (with_packet (λ c. popped c receipts) channel p) given) (sym (append-nil at.given)) (took width (λ c. popped c receipts) at.given at.stood);
     uncut = ap (λ (h : Held). h.cut) is ∙ uncut_takes channel p (held old) uncut ∙ at.uncut;
     sends = sym (append-nil (waits before));
+    how = λ q. q ∙ ap stream_how (sym (append-nil at.given));
   }
 
-  pub giving_more : (old : M) (fans : List Fan) (channel : ℕ) (p : Packet) (m n : M) (before now after : Outbox) (x : Item) → Giving held stands rule old fans channel p m before now
+  pub giving_more : (old : M) (fans : List Fan) (channel : ℕ) (p : Packet) (m n : M) (before now after : Outbox) (x : Item) (h j : How) → Giving held stands rule old fans channel p m before now h j
       → ((width : ℕ) (taken : ℕ → List Packet) (given : List Item) → stands width m taken given → stands width n taken (given ++ x ∷ []))
       → (held n).cut ≡ (held m).cut
       → ((counts : List ℕ) → fans ≡ fans_from 0 counts → waits after ≡ waits now ++ fans_out counts (output 0 x))
-      → Giving held stands rule old fans channel p n before after
-  giving_more old fans channel p m n before now after x g gave cut sent width counts receipts at =
+      → Giving held stands rule old fans channel p n before after h (how_behind j x)
+  giving_more old fans channel p m n before now after x h j g gave cut sent width counts receipts at =
       let is = g width counts receipts at in
       let taken = with_packet (λ c. popped c receipts) channel p in
       record {
@@ -119,16 +124,18 @@ module _ {M : Type 0} (held : M → Held) (stands : ℕ → M → (ℕ → List 
         sends = sent counts at.fans_are ∙ ap (λ z. z ++ fans_out counts (output 0 x)) is.sends ∙ append_assoc (waits before) (all_out counts (map (output 0) is.more)) (fans_out counts (output 0 x))
             ∙ ap (λ z. waits before ++ z) (ap (λ z. all_out counts (map (output 0) is.more) ++ z) (sym (append-nil (fans_out counts (output 0 x))))
             ∙ sym (flat_map-append (fans_out counts) (map (output 0) is.more) (output 0 x ∷ [])) ∙ ap (all_out counts) (sym (map-append (output 0) is.more (x ∷ []))));
+        how = λ q. ap (λ k. how_behind k x) (is.how q) ∙ sym (stream_how-more (at.given ++ is.more) x) ∙ ap stream_how (append_assoc at.given is.more (x ∷ []));
       }
 
   -- it has given all that is merged then
-  pub has_given : (old m n : M) (fans : List Fan) (channel : ℕ) (p : Packet) (before now : Outbox) → Giving held stands rule old fans channel p m before now
+  pub has_given : (old m n : M) (fans : List Fan) (channel : ℕ) (p : Packet) (before now : Outbox) (h j : How) → Giving held stands rule old fans channel p m before now h j
       → ((width : ℕ) (taken : ℕ → List Packet) (given : List Item) → stands width m taken given → InOrder rule width taken → (held m).cut ≡ false → given ≡ merged rule width taken)
       → n ≡ m
       → (region : RegionPart) (counts : List ℕ) (receipts : List Receipt) → region.rule ≡ rule → MergerAt held stands rule region.width counts receipts old fans
       → InOrder region.rule region.width (λ c. popped c (receipts ++ Popped channel p ∷ []))
       → MergerAt held stands rule region.width counts (receipts ++ Popped channel p ∷ []) n fans × (waits now ≡ waits before ++ adds (Merger region (ports_of_fans counts)) receipts (Popped channel p))
-  has_given old m n fans channel p before now g whole still region counts receipts same_rule at in_order =
+      × (h ≡ stream_how (merged_for region receipts) → j ≡ stream_how (merged_for region (receipts ++ Popped channel p ∷ [])))
+  has_given old m n fans channel p before now h j g whole still region counts receipts same_rule at in_order =
       let width = region.width in
       let is = g width counts receipts at in
       let taken : ℕ → List Packet = λ c. popped c (receipts ++ Popped channel p ∷ []) in
@@ -149,4 +156,6 @@ module _ {M : Type 0} (held : M → Held) (stands : ℕ → M → (ℕ → List 
           few = at.few;
         },
         is.sends ∙ ap (λ z. waits before ++ z) (sym (all-sent counts (map (output 0) is.more)) ∙ ap (λ xs. send_all (ports_of_fans counts) (map (output 0) xs)) (sym rest_too)),
+        λ q. is.how (q ∙ ap (λ r. stream_how (merged r width (λ c. popped c receipts))) same_rule ∙ ap stream_how (sym first))
+            ∙ ap stream_how all ∙ ap (λ r. stream_how (merged r width taken)) (sym same_rule),
       )

@@ -12,6 +12,7 @@ module _ {R : Type 0} (spec : R → Operator) (stands : R → List Event → Typ
   at_start slot operator is live new = record {
     operator = ap spec is;
     over = ap is_over live;
+    how = live;
     state = λ q. subst (λ r. stands r []) (sym is) new;
   }
 

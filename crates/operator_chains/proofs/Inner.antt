@@ -1,6 +1,6 @@
 -- Operators with one connection: which events may come, and that it stays so.
-use Rattle.std.proofs.Common.{ℕ, ◌<◌, ◌==◌, ◌&&◌, Bool, true, false, cond, List, [], ◌∷◌, ◌++◌, ◌≡◌, map, length, refl, sym, ap, ◌∙◌, subst, is_some, is_none, Option, Some, None, arith}
-use Rattle.std.proofs.lemmas.Bool.{cond-true, cond-false}
+use Rattle.std.proofs.Common.{ℕ, ◌<◌, ◌==◌, ◌&&◌, Bool, true, false, cond, List, [], ◌∷◌, ◌≡◌, map, length, refl, sym, ap, ◌∙◌, subst, is_some, is_none, Option, Some, None, arith}
+use Rattle.std.proofs.lemmas.Bool.{cond-false}
 use Rattle.spl_value.specs.declared.item.Item.{Item}
 use Rattle.spl_value.specs.declared.item.Item.TheVariants as I
 use Rattle.spl_tree.specs.declared.body.Function.{Function}
@@ -12,7 +12,7 @@ use Rattle.stream_model.specs.Inputs.{came_on}
 use Rattle.stream_model.specs.Operators.{Operator, ports, input_attributes}
 use Rattle.stream_model.specs.parts.Operators.{port_at}
 use Rattle.stream_model.specs.React.{body, ended}
-use Rattle.stream_model.specs.Replies.{ItemHas, MayTake, given_attributes, is_live}
+use Rattle.stream_model.specs.Replies.{ItemHas, given_attributes, is_live}
 use Rattle.stream_model.specs.Stages.{Stage, gives_all, next, on_port, stage_after}
 use Rattle.stream_model.specs.Stream.{Event, came, any_closes, TuplesFit}
 use Rattle.spl_value.specs.Numbered.{closes}

@@ -3,3 +3,4 @@ pub mod Entering
 pub mod Passing
 pub mod FrontTuples
 pub mod Adding
+pub mod Ending

@@ -1,12 +1,12 @@
 -- From operator to operator.
-use Rattle.std.proofs.Common.{ℕ, suc, ◌+◌, ◌<◌, ◌==◌, Bool, true, false, cond, List, [], ◌∷◌, ◌++◌, ◌≡◌, ◌⊎◌, inl, inr, map, refl, sym, ap, ◌∙◌, subst, append-nil, append_assoc, length, take, drop, get_or, set, arith}
+use Rattle.std.proofs.Common.{ℕ, suc, ◌+◌, ◌<◌, cond, List, [], ◌∷◌, ◌++◌, ◌≡◌, ◌⊎◌, inl, inr, refl, sym, ap, ◌∙◌, subst, append-nil, append_assoc, length, take, drop, get_or, set, arith}
 use Rattle.std.proofs.lemmas.Bool.{cases_eq, eq-eqb, ne_eqb}
 use Rattle.std.proofs.lemmas.List.{take_more_set, drop-set-lt, drop_more}
 use Rattle.spl_value.specs.declared.item.Item.{Item}
 use Rattle.spl_value.specs.declared.item.Item.TheVariants as I
 use Rattle.language_model.specs.declared.outs.Output.{Output}
 use Rattle.language_model.specs.StreamTypes.{Attributes}
-use Rattle.stream_model.specs.Operators.{Operator, input_attributes}
+use Rattle.stream_model.specs.Operators.{Operator}
 use Rattle.stream_model.specs.Replies.{AllFit, ItemHas, given_attributes}
 use Rattle.stream_model.specs.Stages.{Stage, gives_all, on_port, stage_after}
 use Rattle.stream_model.specs.Stream.{Event, TuplesFit}

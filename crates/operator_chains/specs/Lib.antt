@@ -1,3 +1,4 @@
+pub mod Hows
 pub mod Standing
 pub mod Places
 pub mod steps

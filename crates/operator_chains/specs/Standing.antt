@@ -1,6 +1,5 @@
 -- For which events the operators of a chain stand, and which may come.
-use Rattle.std.specs.Prelude.{◌≡◌, ◌==◌, ◌+◌, length, ℕ, Bool, true, false, List, [], ◌∷◌, map, Option, Some, None}
-use Rattle.spl_value.specs.declared.item.Fault.{Fault}
+use Rattle.std.specs.Prelude.{◌≡◌, ◌==◌, ◌+◌, length, ℕ, Bool, true, false, List, [], ◌∷◌, Option, Some, None}
 use Rattle.language_model.specs.StreamTypes.{Attributes}
 use Rattle.stream_model.specs.Inputs.{came_on}
 use Rattle.stream_model.specs.Operators.{Operator, input_attributes}
@@ -11,21 +10,19 @@ use Rattle.operator_chains.specs.declared.how.How.{How}
 use Rattle.operator_chains.specs.declared.how.How.TheVariants as H
 use Rattle.operator_chains.specs.declared.slot.Slot.{Slot}
 use Rattle.operator_chains.specs.declared.chain.Chain.{Chain}
+use Rattle.operator_chains.specs.Hows.{stage_how}
 
 abbrev pub is_over : How → Bool
 is_over H.Live = false
 is_over H.Final = true
 is_over (H.Bad fault) = true
 
-abbrev pub ended_as : Option Fault → How
-ended_as None = H.Final
-ended_as (Some fault) = H.Bad fault
-
 -- ---- where operators stand
 
 pub record AtStage {R : Type 0} (spec : R → Operator) (stands : R → List Event → Type 0) (slot : Slot R) (s : Stage) : Type 0 where
   pub operator : spec slot.operator ≡ s.op
   pub over : is_over slot.how ≡ s.over
+  pub how : slot.how ≡ stage_how s
   pub state : s.over ≡ false → stands slot.operator s.seen
 
 abbrev pub AtStages : {R : Type 0} (spec : R → Operator) (stands : R → List Event → Type 0) → List (Slot R) → List Stage → Type 0

@@ -1,15 +1,17 @@
 //! A chain of operators.
-ghost use Rattle.std.specs.Prelude.{◌≡◌, ◌∷◌, ◌++◌, [], List, IfOk, length};
+ghost use Rattle.std.specs.Prelude.{◌≡◌, ◌∷◌, ◌++◌, [], List, IfOk, length, not};
 ghost use Rattle.spl_value.specs.declared.item.Item.TheVariants as I;
 ghost use Rattle.stream_model.specs.Stages.{Stage, gives_all, stage_after, start};
 ghost use Rattle.stream_model.specs.Stream.{Event, came};
 ghost use Rattle.stream_model.specs.Chains.{chain_gives, chain_after, stages_passed};
+ghost use Rattle.operator_chains.specs.Hows.{last_how};
 ghost use Rattle.operator_chains.specs.Places.{IsBelow, given_by, tuple_at};
 ghost use Rattle.operator_chains.specs.Standing.{places_of, AtChain, AtStage, AtStages, MayFeed};
 
 use crate::along::along;
 use crate::along_places::through_places;
 use crate::given::Given;
+use crate::how::How;
 use crate::slot::{Slot, enter};
 use language_model::{Output, Outs};
 use spl_value::{Item, NoMemory, Values};
@@ -85,6 +87,33 @@ impl<R: React> Chain<R> {
         match &mut self.first {
             None => alone(alloc, item),
             Some(first) => through(alloc, first, self.others.as_mut_slice(), input, item),
+        }
+    }
+
+    /// How the last operator stands; where there is none, as the stream does that is handed in.
+    #[inline(always)]
+    pub fn how(&self, alone: How) -> How
+        ensures { (ss : List Stage) → AtChain R.spec R.stands self.now ss → result ≡ last_how alone ss }
+    {
+        match &self.first {
+            None => alone,
+            Some(first) => match self.others.as_slice().last() {
+                Some(slot) => slot.how,
+                None => first.how,
+            },
+        }
+    }
+
+    /// Whether there is a first operator that hasn't ended.
+    pub fn is_live(&self) -> bool
+        ensures { (s : Stage) (ss : List Stage) → AtChain R.spec R.stands self.now (s ∷ ss) → result ≡ not s.over }
+    {
+        match &self.first {
+            None => false,
+            Some(first) => match first.how {
+                How::Live => true,
+                How::Final | How::Bad(_) => false,
+            },
         }
     }
 

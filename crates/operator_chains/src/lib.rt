@@ -12,5 +12,5 @@ mod slot;
 
 pub use chain::Chain;
 pub use given::Given;
-pub use how::How;
+pub use how::{How, how_of};
 pub use slot::{Slot, pass};

@@ -1,12 +1,13 @@
 //! One operator of a chain.
 ghost use Rattle.std.specs.Prelude.{◌≡◌, ◌∷◌, ◌++◌, [], IfOk};
 ghost use Rattle.language_model.specs.declared.outs.Output.{Output};
-ghost use Rattle.stream_model.specs.Replies.{AllFit};
+ghost use Rattle.stream_model.specs.Replies.{AllFit, end_by as end_item};
 ghost use Rattle.stream_model.specs.Stages.{Stage, gives_all, stage_after};
 ghost use Rattle.stream_model.specs.Stream.{Event, came};
 ghost use Rattle.operator_chains.specs.declared.how.How.TheVariants as H;
 ghost use Rattle.stream_model.specs.Chains.{onward};
-ghost use Rattle.operator_chains.specs.Standing.{AtStage, Enters, ended_as};
+ghost use Rattle.operator_chains.specs.Hows.{how_of};
+ghost use Rattle.operator_chains.specs.Standing.{AtStage, Enters};
 
 use crate::how::How;
 use language_model::{Output, Outs};
@@ -36,7 +37,7 @@ impl<R> Slot<R> {
 /// How an operator stands that ended so.
 #[inline(always)]
 pub(crate) fn end_by(fault: Option<Fault>) -> How
-    ensures { result ≡ ended_as fault }
+    ensures { result ≡ how_of (end_item fault) }
 {
     match fault {
         None => How::Final,

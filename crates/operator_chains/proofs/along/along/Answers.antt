@@ -1,8 +1,6 @@
-use Rattle.std.proofs.Common.{[], ◌+◌, ◌<◌, length, take, drop, get_or, subst, arith, List}
-use Rattle.std.proofs.lemmas.List.{drop_more, drop_all}
-use Rattle.operator_chains.specs.declared.slot.Slot.{Slot}
-use Rattle.operator_chains.specs.steps.Along.{Along}
-use Rattle.operator_chains.proofs.Passing.{along_first, along_enters, along_step, along_end}
+use Rattle.std.proofs.Common.{◌+◌, ◌<◌, length, take, drop, get_or, arith}
+use Rattle.std.proofs.lemmas.List.{drop_more}
+use Rattle.operator_chains.proofs.Passing.{along_first, along_enters, along_step}
 use Rattle.operator_chains.proofs.along.along.Goals as goal
 
 pub loop-slot-init : goal.loop-slot-init

@@ -1,8 +1,6 @@
-use Rattle.std.proofs.Common.{◌+◌, ◌<◌, ◌≡◌, ◌∷◌, length, take, drop, get_or, arith, refl, ◌∙◌, subst, List}
+use Rattle.std.proofs.Common.{◌+◌, ◌<◌, ◌≡◌, length, take, drop, get_or, arith, refl, ◌∙◌}
 use Rattle.std.proofs.lemmas.List.{drop_more}
 use Rattle.operator_chains.specs.Places.{given_by}
-use Rattle.operator_chains.specs.declared.slot.Slot.{Slot}
-use Rattle.operator_chains.specs.steps.Along.{Along}
 use Rattle.operator_chains.proofs.Passing.{along_enters, along_first, along_fits, along_step}
 use Rattle.operator_chains.proofs.along_places.along_places.Goals as goal
 

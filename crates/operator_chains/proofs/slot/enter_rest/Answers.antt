@@ -1,4 +1,4 @@
-use Rattle.std.proofs.Common.{◌≡◌, ◌∙◌, ◌++◌, ◌∷◌, [], ap, sym, append_assoc, arith, length, refl, subst}
+use Rattle.std.proofs.Common.{◌∙◌, ◌++◌, ◌∷◌, [], ap, sym, append_assoc, arith, length, refl, subst}
 use Rattle.std.specs.Vec.Iter.{into_iter_items}
 use Rattle.stream_model.specs.Operators.{Operator}
 use Rattle.stream_model.specs.Replies.{AllFit}
