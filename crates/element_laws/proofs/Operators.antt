@@ -1,5 +1,5 @@
 -- Operators of a checked graph where they stand in its order, and chains of them.
-use Rattle.std.proofs.Common.{ℕ, zero, suc, ◌+◌, ◌-◌, ◌<◌, ◌^◌, Bool, true, false, cond, List, [], ◌∷◌, ◌≡◌, refl, sym, ap, ◌∙◌, arith, length, map, replicate, is_some, None, Some, slice_get}
+use Rattle.std.proofs.Common.{ℕ, zero, suc, ◌+◌, ◌-◌, ◌<◌, ◌≤◌, ◌^◌, Bool, true, false, cond, List, [], ◌∷◌, ◌≡◌, refl, sym, ap, ◌∙◌, subst, arith, length, map, replicate, is_some, None, Some, slice_get}
 use Rattle.std.specs.List.{concat, flat_map}
 use Rattle.std.specs.Option.{option_and_then, option_map_or}
 use Rattle.std.proofs.lemmas.List.{length-append, length-map, length-replicate}
@@ -17,6 +17,7 @@ use Rattle.stream_model.proofs.CheckedOperators.{OperatorAt}
 use Rattle.stream_model.proofs.GraphParts.{operator_at}
 use Rattle.list_engine.proofs.Ports.{input_count, input_schema, output_schema}
 use Rattle.network_model.specs.Networks.{last_of}
+use Rattle.port_reacts.proofs.Operators.{few_outs}
 use Rattle.network_model.specs.Wiring.{is_source, Path, Stands}
 use Rattle.pe_fusion.specs.ElementPorts.{connections_of_outs, first_ins, read_schemas, rows_stream, schema_of, source_of}
 use Rattle.pe_fusion.specs.Fusing.{GraphFits}
@@ -135,6 +136,15 @@ module _ (c : CheckedGraph) (k : Keeps c) where
   pub counts-are : (op : Operator) (ops : List Operator) (ids : List ℕ) → ids ≡ numbers (op ∷ ops) → Stands (graph_of c) op → Path (graph_of c) op ops
       → connections_of_outs c ids ≡ map (λ s. length (readers (graph_of c) s)) (last_of op ops).outs
   counts-are op ops ids e stands path = ap (map (λ s. length (readers (graph_of c) s))) (last-outs op ops ids e stands path)
+
+  pub fans-count : (op : Operator) (ops : List Operator) (ids : List ℕ) → ids ≡ numbers (op ∷ ops) → Stands (graph_of c) op → Path (graph_of c) op ops
+      → length (connections_of_outs c ids) ≡ length (last_of op ops).outs
+  fans-count op ops ids e stands path = ap length (counts-are op ops ids e stands path) ∙ length-map (last_of op ops).outs (λ s. length (readers (graph_of c) s))
+
+  pub last-few : (op : Operator) (ops : List Operator) → Stands (graph_of c) op → Path (graph_of c) op ops → length (last_of op ops).outs ≤ 16
+  last-few op ops stands path =
+      let is = own (last_of op ops) (last-stands op ops stands path) in
+      subst (λ n. n ≤ 16) (ap (λ (o : Operator). length o.outs) (sym is.same)) (few_outs c k (last_of op ops).number is.op is.part is.there is.has)
 
   -- an operator has few of them
   pub few-counts : (op : Operator) (ops : List Operator) (ids : List ℕ) → ids ≡ numbers (op ∷ ops) → Stands (graph_of c) op → Path (graph_of c) op ops → outputs_in (connections_of_outs c ids) < 2 ^ 32

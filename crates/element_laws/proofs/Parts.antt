@@ -1,5 +1,5 @@
 -- What a checked graph, its plan and a width make an element of fits.
-use Rattle.std.proofs.Common.{ℕ, ◌<◌, ◌≤◌, ◌^◌, List, [], ◌∷◌, ◌≡◌, refl, sym, ap, ◌∙◌, subst, arith, length, replicate, is_some, Some, slice_get}
+use Rattle.std.proofs.Common.{ℕ, ◌<◌, ◌≤◌, ◌^◌, List, [], ◌∷◌, ◌≡◌, refl, sym, ap, ◌∙◌, subst, arith, length, replicate, is_some, None, Some, slice_get}
 use Rattle.std.proofs.lemmas.List.{length-replicate}
 use Rattle.std.proofs.lemmas.Option.{slice_get_within}
 use Rattle.language_model.specs.CheckedGraph.{CheckedGraph}
@@ -15,8 +15,8 @@ use Rattle.stream_model.specs.parts.Operators.{port_at}
 use Rattle.stream_model.specs.Regions.{IsPlan}
 use Rattle.stream_model.specs.Replies.{ItemHas}
 use Rattle.stream_model.specs.Stream.{Event}
-use Rattle.network_model.specs.Networks.{RegionPart, Part, FromSource, FromLinks, Splitter, Replica, Merger}
-use Rattle.network_model.specs.Wiring.{PartFits, Stands}
+use Rattle.network_model.specs.Networks.{RegionPart, Part, FromSource, FromLinks, Splitter, Replica, Merger, last_of}
+use Rattle.network_model.specs.Wiring.{PartFits, Path, Stands}
 use Rattle.pe_fusion.specs.ElementPorts.{channels_of, connections_of_outs, fans_by, ins_by, ports_of, read_schemas}
 use Rattle.pe_fusion.specs.FusedNets.{fused_net}
 use Rattle.pe_fusion.specs.ShapeLaws.{OfRegion, Tells}
@@ -25,15 +25,16 @@ use Rattle.pe_fusion.proofs.Checked.{fits_law}
 use Rattle.pe_fusion.proofs.FusedElements.{elements_law}
 use Rattle.pe_fusion.proofs.Numbered.{get-map}
 use Rattle.pe_fusion.proofs.Wired.{fused_wired}
+use Rattle.element_notes.specs.Endings.{last_in}
 use Rattle.element_outboxes.specs.Waiting.{outputs_in}
 use Rattle.element_works.specs.Works.{HasFans}
 use Rattle.elements.specs.declared.part.ElementPart.{ElementPart}
 use Rattle.elements.specs.declared.work.Work.{Work}
 use Rattle.elements.specs.declared.work.Work.TheVariants as W
-use Rattle.elements.specs.New.{IsNew, NewWork}
+use Rattle.elements.specs.New.{HasNumbers, IsNew, NewWork}
 use Rattle.elements.specs.Suiting.{AreFused, Suits}
 use Rattle.element_laws.specs.Made.{FitLaw, HasPorts, IsNewWork}
-use Rattle.element_laws.proofs.Operators.{counts-are, few-counts, fused-path, has-source, ones-sum, ports-of-fans, reads-are, reads-count, takes-schema}
+use Rattle.element_laws.proofs.Operators.{counts-are, fans-count, few-counts, fused-path, has-source, last-few, ones-sum, ports-of-fans, reads-are, reads-count, takes-schema}
 use Rattle.element_laws.proofs.Silent.{links-fans, source-fans, source-gives}
 use Rattle.element_laws.proofs.Regions.{channels, entry-is, region-ids}
 use Rattle.element_laws.proofs.Routes.{routes-key}
@@ -91,6 +92,62 @@ module _ {R : Type 0} (spec : R → Operator) (stands : R → List Event → Typ
 
   few-outs : (outs fans : List ℕ) → outs ≡ ports_of_fans fans → outputs_in fans < 2 ^ 32 → length outs < 2 ^ 32
   few-outs outs fans are few = subst (λ n. n < 2 ^ 32) (sym (ap length are ∙ ports-of-fans 0 fans)) few
+
+  ports-count : (op : Operator) (ops : List Operator) (ids fans : List ℕ) → fans ≡ connections_of_outs c ids → ids ≡ numbers (op ∷ ops) → Stands (graph_of c) op → Path (graph_of c) op ops
+      → (last : Operator) → Some (last_of op ops) ≡ Some last → length fans ≡ length last.outs
+  ports-count op ops ids fans are e stands path last is-last =
+      let same : last_of op ops ≡ last = cc in
+      ap length are ∙ fans-count c k op ops ids e stands path ∙ ap (λ (o : Operator). length o.outs) same
+
+  few-fans : (op : Operator) (ops : List Operator) (ids fans : List ℕ) → fans ≡ connections_of_outs c ids → ids ≡ numbers (op ∷ ops) → Stands (graph_of c) op → Path (graph_of c) op ops → length fans < 2 ^ 32
+  few-fans op ops ids fans are e stands path =
+      let count = ap length are ∙ fans-count c k op ops ids e stands path in
+      let few = last-few c k op ops stands path in
+      let power : 2 ^ 32 ≡ 4294967296 = refl in
+      omega (arith, count, few, power)
+
+  has-numbers : (part : Part) (e : ShapeElement) (made : ElementPart R) → PartFits (graph_of c) part → Tells c plan width part e → HasPorts made (ports_of c plan width e) → HasNumbers part made
+  has-numbers (FromSource source ops outs) e made f t p =
+      let fans : made.fans ≡ connections_of_outs c e.ids = p.fans ∙ ap (λ r. fans_by c r (channels_of plan width e.region) e.ids) t.0 in record {
+        ids = p.ids ∙ t.2;
+        ports = ports-count source ops e.ids made.fans fans t.2 f.stands f.path;
+        few = few-fans source ops e.ids made.fans fans t.2 f.stands f.path;
+      }
+  has-numbers (FromLinks op ops outs) e made f t p =
+      let fans : made.fans ≡ connections_of_outs c e.ids = p.fans ∙ ap (λ r. fans_by c r (channels_of plan width e.region) e.ids) t.0 in record {
+        ids = p.ids ∙ t.2;
+        ports = ports-count op ops e.ids made.fans fans t.2 f.stands f.path;
+        few = few-fans op ops e.ids made.fans fans t.2 f.stands f.path;
+      }
+  has-numbers (Splitter region) e made f t p =
+      let o = t.1 in
+      let wide = channels c k plan width is region e o in
+      let fans : made.fans ≡ replicate region.width 1 = p.fans ∙ ap (λ r. fans_by c r (channels_of plan width e.region) e.ids) t.0 ∙ ap (λ n. replicate n 1) wide in
+      let most = few-channels region e o in
+      let count : length made.fans ≡ region.width = ap length fans ∙ length-replicate region.width 1 in
+      let power : 2 ^ 32 ≡ 4294967296 = refl in record {
+        ids = p.ids ∙ region-ids c k plan width is region e f o ∙ ap numbers (sym f.are);
+        ports = λ last none. absurd (let clash : None ≡ Some last = none in cc);
+        few = omega (arith, count, most, power);
+      }
+  has-numbers (Replica region channel) e made f t p =
+      let own = f.0 in
+      let fans : made.fans ≡ 1 ∷ [] = p.fans ∙ ap (λ r. fans_by c r (channels_of plan width e.region) e.ids) t.0 in
+      let count : length made.fans ≡ 1 = ap length fans in
+      let power : 2 ^ 32 ≡ 4294967296 = refl in record {
+        ids = p.ids ∙ region-ids c k plan width is region e own t.1 ∙ ap numbers (sym own.are);
+        ports = λ last none. absurd (let clash : None ≡ Some last = none in cc);
+        few = omega (arith, count, power);
+      }
+  has-numbers (Merger region outs) e made f t p =
+      let o = t.1 in
+      let own = f.0 in
+      let ids = region-ids c k plan width is region e own o in
+      let fans : made.fans ≡ connections_of_outs c e.ids = p.fans ∙ ap (λ r. fans_by c r (channels_of plan width e.region) e.ids) t.0 in record {
+        ids = p.ids ∙ ids ∙ ap numbers (sym own.are);
+        ports = λ last is-last. ports-count own.op own.ops e.ids made.fans fans ids own.stands own.path last (sym (ap last_in own.are) ∙ is-last);
+        few = few-fans own.op own.ops e.ids made.fans fans ids own.stands own.path;
+      }
 
   made-fits : (part : Part) (e : ShapeElement) (made : ElementPart R) → PartFits (graph_of c) part → Tells c plan width part e → HasPorts made (ports_of c plan width e) → IsNewWork spec stands part made.work
       → IsNew spec stands part made × Suits part made.ins
@@ -184,5 +241,8 @@ fit_law spec stands c plan width n capacity made k is low m =
     let told = elements_law c plan width capacity k is in
     let within = slice_get_within (shape_of (graph_of c) plan width).elements n m.element m.at in
     let many = told.many in
-    made-fits spec stands c k plan width is low ((fused_net (graph_of c) plan width capacity).part n) m.element made
-    ((fused_wired c plan width capacity k is).parts n (omega (arith, within, many))) (told.each n m.element m.at) m.ports m.work
+    let part = (fused_net (graph_of c) plan width capacity).part n in
+    let fit = (fused_wired c plan width capacity k is).parts n (omega (arith, within, many)) in
+    let tells = told.each n m.element m.at in
+    let new = made-fits spec stands c k plan width is low part m.element made fit tells m.ports m.work in
+    (new.0, has-numbers spec stands c k plan width is low part m.element made fit tells m.ports, new.1)

@@ -22,7 +22,7 @@ use Rattle.network_model.specs.ElementRule.{KeepsRule}
 use Rattle.network_model.specs.Receipts.{popped}
 use Rattle.operator_chains.specs.Standing.{AtChain}
 use Rattle.operator_chains.specs.declared.chain.Chain.{Chain}
-use Rattle.elements.specs.New.{IsNew}
+use Rattle.elements.specs.New.{HasNumbers, IsNew}
 use Rattle.elements.specs.Suiting.{Suits}
 use Rattle.element_laws.specs.Made.{IsMade}
 use Rattle.element_laws.specs.Putting.{TookProper}
@@ -46,7 +46,7 @@ replica_made operators at = record { element = _; at = refl; ports = record { id
 pub merger_made : IsMade itself IsUnused chain filters 2 4 merger_part
 merger_made = record { element = _; at = refl; ports = record { ids = refl; ins = refl; fans = refl; source = refl }; work = (refl, refl) }
 
-pub splitter_fits : IsNew itself IsUnused (part_at 1) splitter_part × Suits (part_at 1) (numbers ∷ [])
+pub splitter_fits : IsNew itself IsUnused (part_at 1) splitter_part × HasNumbers (part_at 1) splitter_part × Suits (part_at 1) (numbers ∷ [])
 splitter_fits = fit_law itself IsUnused chain filters 2 1 18 splitter_part chain_keeps filters_plan (let le : 2 ≤ 16 = omega arith in le) splitter_made
 
 pub row_kept : KeepsRule (part_at 1) one_row

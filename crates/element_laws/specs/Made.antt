@@ -22,7 +22,7 @@ use Rattle.operator_chains.specs.Standing.{AtChain}
 use Rattle.elements.specs.declared.part.ElementPart.{ElementPart}
 use Rattle.elements.specs.declared.work.Work.{Work}
 use Rattle.elements.specs.declared.work.Work.TheVariants as W
-use Rattle.elements.specs.New.{IsNew}
+use Rattle.elements.specs.New.{HasNumbers, IsNew}
 use Rattle.elements.specs.Suiting.{Suits}
 
 -- it has these inputs and outputs
@@ -58,4 +58,5 @@ abbrev pub FitLaw : {R : Type 0} (spec : R → Operator) (stands : R → List Ev
 FitLaw {R = R} spec stands = (c : CheckedGraph) (plan : List Region) (width n capacity : ℕ) (made : ElementPart R) → Keeps c
     → IsPlan (graph_of c) plan → width ≤ 16 → IsMade spec stands c plan width n made
     → IsNew spec stands ((fused_net (graph_of c) plan width capacity).part n) made
+    × HasNumbers ((fused_net (graph_of c) plan width capacity).part n) made
     × Suits ((fused_net (graph_of c) plan width capacity).part n) made.ins

@@ -11,7 +11,7 @@ ghost use Rattle.list_engine.specs.examples.Chain.{chain, numbers};
 ghost use Rattle.network_model.specs.ElementRule.{KeepsRule};
 ghost use Rattle.operator_chains.specs.Standing.{AtChain};
 ghost use Rattle.operator_chains.specs.declared.chain.Chain.{Chain};
-ghost use Rattle.elements.specs.New.{IsNew};
+ghost use Rattle.elements.specs.New.{HasNumbers, IsNew};
 ghost use Rattle.elements.specs.Suiting.{Suits};
 ghost use Rattle.element_laws.specs.Made.{IsMade};
 ghost use Rattle.element_laws.specs.Putting.{TookProper};
@@ -24,7 +24,8 @@ pub fn parts_on_literals()
     ensures replica { (operators : Chain Operator) → AtChain itself IsUnused operators (map start (ops_of (graph_of chain) (1 ∷ 2 ∷ [])))
         → IsMade itself IsUnused chain filters 2 2 (replica_part operators) }
     ensures merger { IsMade itself IsUnused chain filters 2 4 merger_part }
-    ensures fits { IsNew itself IsUnused (part_at 1) splitter_part × Suits (part_at 1) (numbers ∷ []) }
+    ensures fits { IsNew itself IsUnused (part_at 1) splitter_part × HasNumbers (part_at 1) splitter_part
+        × Suits (part_at 1) (numbers ∷ []) }
     ensures keeps { KeepsRule (part_at 1) one_row }
     ensures takes { TookProper (part_at 1) (numbers ∷ []) one_row.kept }
     ensures puts { IsProper numbers (on_output 0 one_row.pushed) }
