@@ -11,7 +11,9 @@ use Rattle.network_model.specs.Receipts.{Popped, popped}
 use Rattle.network_model.specs.States.{At, all_taken}
 use Rattle.network_model.proofs.Receipts.{popped-append}
 use Rattle.ordered_link.specs.declared.ends.Link.{Link}
-use Rattle.ordered_link.specs.Ends.{IsSenderOf, IsTakerOf, sent, taken, wear_of}
+use Rattle.crossbeam_queue.specs.Fifo.{Held}
+use Rattle.ordered_link.specs.Ends.{IsSenderOf, IsTakerOf, capacity_of, sent, taken, wear_of}
+use Rattle.ordered_link.specs.Rule.{IsSentUpTo}
 use Rattle.node_turns.specs.declared.ends.Inlet.{Inlet}
 use Rattle.node_turns.specs.declared.ends.Outlet.{Outlet}
 use Rattle.node_turns.specs.Placed.{InsPlaced, IsSender, IsTaker, OutsPlaced, SentIs, TakenIs}
@@ -122,3 +124,14 @@ pub within_wear : (links : List Link) (old new : Inlet) (l : Link) → l ≡ get
 within_wear links old new l is ends t =
     let w : wear_of l ≤ 2 ^ 61 = subst (λ (x : Link). wear_of x ≤ 2 ^ 61) (sym is) (t.wear l) in
     omega (arith, new.pass.counted, new.pass.within, ends.2, w)
+
+-- the link of an output was full
+pub full_at : (links : List Link) (outs : List Outlet) (k : ℕ) (old : Outlet) (l0 : Link) → k < length outs
+    → old ≡ get_or outs k old → old.link < length links → l0 ≡ get_or links old.link l0
+    → Held (capacity_of l0) (IsSentUpTo (sent old.pass)) → (d : Outlet) (l : Link)
+    → Held (capacity_of (get_or links (get_or outs k d).link l)) (IsSentUpTo (sent (get_or outs k d).pass))
+full_at links outs k old l0 low is within lis held d l =
+    subst (λ (o : Outlet). Held (capacity_of (get_or links o.link l)) (IsSentUpTo (sent o.pass)))
+    (sym (get_or_any outs k d old low ∙ sym is))
+    (subst (λ (x : Link). Held (capacity_of x) (IsSentUpTo (sent old.pass)))
+    (sym (get_or_any links old.link l l0 within ∙ sym lis)) held)

@@ -4,3 +4,4 @@ pub mod Taking
 pub mod Placed
 pub mod Meets
 pub mod Made
+pub mod Idling

@@ -5,10 +5,11 @@ ghost use Rattle.network_model.specs.Networks.{Part, inputs};
 ghost use Rattle.network_model.specs.Receipts.{Popped, WasRead};
 ghost use Rattle.network_model.specs.States.{At, cut_off};
 ghost use Rattle.node_turns.specs.Calls.{Goes, IsFew, SourceHas, StillReads, Tuples};
+ghost use Rattle.node_turns.specs.Idling.{IsStill, WasFull, WasIdle};
 ghost use Rattle.node_turns.specs.Meets.{HasRun, NodeMeets, Runs, StillReading, Writes};
 ghost use Rattle.node_turns.specs.Notes.{worse as worse_as};
 ghost use Rattle.node_turns.specs.Taking.{HasKept, HasTaken, TakesFew};
-ghost use Rattle.group_drive.specs.declared.turns.Turn.TheVariants.{Done};
+ghost use Rattle.group_drive.specs.declared.turns.Turn.TheVariants.{Done, Idle};
 
 use crate::machine::Machine;
 use crate::next::Next;
@@ -34,7 +35,8 @@ fn stop<E: Machine>(element: &mut E, note: &mut Note, why: Note)
 }
 
 fn outcome(moved: bool) -> Turn
-    ensures { result ≡ Done → ⊥ }
+    ensures open { result ≡ Done → ⊥ }
+    ensures idle { result ≡ Idle → moved ≡ false }
 {
     if moved { Turn::Moved } else { Turn::Idle }
 }
@@ -110,6 +112,8 @@ impl<E: Machine, S: Source, K: Sink> Node<E, S, K> {
         ensures number { self.new.number ≡ self.old.number }
         ensures runs { (part : Part) → Runs E.stands S.gave S.front S.over K.took K.began K.faults part links.now.items self.old
             → Runs E.stands S.gave S.front S.over K.took K.began K.faults part links.now.items self.new }
+        ensures still { result ≡ false → IsStill self.old self.new }
+        ensures full { result ≡ false → WasFull links.now.items self.old }
     {
         let Some((output, packet)) = self.element.put() else {
             unreachable!();
@@ -165,6 +169,7 @@ impl<E: Machine, S: Source, K: Sink> Node<E, S, K> {
         ensures count { length self.new.ins.items ≡ length self.old.ins.items }
         ensures runs { (part : Part) → Runs E.stands S.gave S.front S.over K.took K.began K.faults part links.now.items self.old
             → Runs E.stands S.gave S.front S.over K.took K.began K.faults part links.now.items self.new }
+        ensures still { result ≡ false → IsStill self.old self.new }
     {
         let input = at as u32;
         if !self.element.wants(input) {
@@ -189,6 +194,7 @@ impl<E: Machine, S: Source, K: Sink> Node<E, S, K> {
         ensures number { self.new.number ≡ self.old.number }
         ensures runs { (part : Part) → Runs E.stands S.gave S.front S.over K.took K.began K.faults part links.now.items self.old
             → Runs E.stands S.gave S.front S.over K.took K.began K.faults part links.now.items self.new }
+        ensures still { result ≡ false → IsStill self.old self.new }
     {
         let inputs = self.ins.len();
         'inputs: for _ in 0..inputs {
@@ -242,6 +248,8 @@ impl<E: Machine, S: Source, K: Sink> Node<E, S, K> {
             → Runs E.stands S.gave S.front S.over K.took K.began K.faults part links.now.items self.new }
         ensures done { result ≡ Done → (part : Part) → Runs E.stands S.gave S.front S.over K.took K.began K.faults part links.now.items self.old
             → HasRun E.stands S.gave S.front S.over K.took K.began K.faults part links.now.items self.new }
+        ensures idle { result ≡ Idle
+            → WasIdle E.stands S.gave S.front S.over K.took K.began K.faults links.now.items self.old self.new }
     {
         match self.element.next() {
             Next::Put(_) => outcome(self.push(rt, links, gate)),
@@ -251,9 +259,11 @@ impl<E: Machine, S: Source, K: Sink> Node<E, S, K> {
                 Turn::Moved
             }
             Next::Take => {
-                let taken = self.pull(rt, links);
+                if !self.pull(rt, links) {
+                    return Turn::Idle;
+                }
                 self.pour();
-                outcome(taken)
+                Turn::Moved
             }
             Next::Done => Turn::Done,
         }

@@ -1,5 +1,6 @@
 use Rattle.std.proofs.Common.{◌≡◌, length}
 use Rattle.network_model.specs.Networks.{Part}
+use Rattle.node_turns.specs.Idling.{IsStill}
 use Rattle.node_turns.specs.Meets.{Runs}
 use Rattle.node_turns.proofs.node.Node.pull.Given as goal
 
@@ -10,3 +11,4 @@ invariant-inputs g l =
     g.K.Sink.began g.K.Sink.faults part l.links.items l.fn.self
     → Runs g.E.Machine.stands g.S.Source.gave g.S.Source.front g.S.Source.over g.K.Sink.took g.K.Sink.began
     g.K.Sink.faults part l.links.items l.self)
+    × IsStill l.fn.self l.self

@@ -1,6 +1,9 @@
 use Rattle.std.proofs.Common.{arith, refl, sym, subst, ⊎_elim}
 use Rattle.node_turns.specs.declared.ends.Inlet.{Inlet}
 use Rattle.node_turns.specs.Placed.{IsTaker}
+use Rattle.std.proofs.Common.{ap, ◌∙◌}
+use Rattle.std.proofs.Math.Seq.{map-set_same}
+use Rattle.ordered_link.specs.Ends.{taken}
 use Rattle.node_turns.proofs.Keeps.{few_one, improper_one, lacked_one, took_one}
 use Rattle.node_turns.proofs.LinkEnds.{ins_placed, taker_after, within_wear}
 use Rattle.node_turns.proofs.node.Node.pull_at.Goals as goal
@@ -68,4 +71,20 @@ returns-clause-runs g c part r =
           part n.element c.stop.new.element n.ins.items n.outs.items n.first.value n.source n.clean.value n.sink
           n.note c.stop.new.note k new
           c.stop.ensures.note (λ a poured at. c.stop.ensures.stood part a poured at) r.meets;
+    }
+
+pub returns-then-not-wants-clause-still : goal.returns-then-not-wants-clause-still
+returns-then-not-wants-clause-still g c none = record { taken_same = refl; sent_same = refl; source = refl; note = refl }
+
+pub returns-in-None-clause-still : goal.returns-in-None-clause-still
+returns-in-None-clause-still g c none =
+    let n = c.args.self.now in
+    let old : Inlet = c.index_mut-inlet.result.now in
+    let new : Inlet = record { link = old.link; pass = c.try_take.new.pass } in
+    record {
+      taken_same = map-set_same (λ (i : Inlet). taken i.pass) n.ins.items c.args.at new old
+          (c.in-None.ensures.taken ∙ ap (λ (i : Inlet). taken i.pass) c.index_mut-inlet.ensures.value);
+      sent_same = refl;
+      source = refl;
+      note = refl;
     }

@@ -1,16 +1,19 @@
+use Rattle.std.specs.Prelude.{Err}
+use Rattle.ordered_link.specs.declared.ends.Put.{Put}
 use Rattle.std.proofs.Common.{rules, arith, ◌≡◌, ◌<◌, length, set, vec_len, refl, sym, ap, ◌∙◌, subst}
 use Rattle.spl_value.specs.declared.packet.Packet.{Packet}
 use Rattle.stream_model.specs.Sending.{outgoing}
 use Rattle.network_model.specs.Networks.{outputs}
 use Rattle.network_model.specs.States.{At, puts}
 use Rattle.ordered_link.specs.declared.ends.Link.{Link}
-use Rattle.ordered_link.specs.Ends.{IsSenderOf, handed_back}
+use Rattle.ordered_link.specs.Ends.{IsSenderOf, handed_back, is_full, sent}
 use Rattle.node_turns.specs.declared.ends.Outlet.{Outlet}
 use Rattle.node_turns.specs.declared.note.Note.TheVariants as N
 use Rattle.node_turns.specs.Calls.{Tuples}
 use Rattle.node_turns.specs.Placed.{IsSender}
+use Rattle.std.proofs.Math.Seq.{map-set_same}
 use Rattle.node_turns.proofs.Keeps.{cut_one, sent_one, unsent_one}
-use Rattle.node_turns.proofs.LinkEnds.{outs_placed, sender_after}
+use Rattle.node_turns.proofs.LinkEnds.{full_at, outs_placed, sender_after}
 use Rattle.node_turns.proofs.node.Node.push.Goals as goal
 
 pub index_mut-outlet-requires : goal.index_mut-outlet-requires
@@ -105,3 +108,33 @@ returns-in-Err-Worn-clause-runs g c part r =
           n.sink n.note k old new
           c.index_mut-outlet.ensures.value c.in-Err-Worn.ensures.err.1 law r.meets);
     }
+
+pub returns-in-Err-Full-clause-still : goal.returns-in-Err-Full-clause-still
+returns-in-Err-Full-clause-still g c none =
+    let n = c.args.self.now in
+    let old : Outlet = c.index_mut-outlet.result.now in
+    let new : Outlet = record { link = old.link; pass = c.try_put.new.pass } in
+    record {
+      taken_same = refl;
+      sent_same = map-set_same (λ (o : Outlet). sent o.pass) n.outs.items c.in-Some.output new old
+          (c.in-Err-Full.ensures.err.1 ∙ ap (λ (o : Outlet). sent o.pass) c.index_mut-outlet.ensures.value);
+      source = refl;
+      note = refl;
+    }
+
+pub returns-in-Err-Full-clause-full : goal.returns-in-Err-Full-clause-full
+returns-in-Err-Full-clause-full g c none =
+    let n = c.args.self.now in
+    let k = c.in-Some.output in
+    let r = c.requires.runs.1 in
+    let old : Outlet = c.index_mut-outlet.result.now in
+    let put = c.in-Some.ensures.puts c.requires.runs.0 r.meets.a r.meets.poured r.meets.at in
+    let low : k < length n.outs.items = omega (arith, put.0, r.meets.output_count) in
+    let placed : IsSender c.args.links.now.items old =
+    subst (λ (x : Outlet). IsSender c.args.links.now.items x) (sym c.index_mut-outlet.ensures.value) (r.outs k old low) in (
+      k,
+      low,
+      full_at c.args.links.now.items n.outs.items k old c.index.result.now low c.index_mut-outlet.ensures.value
+          placed.within c.index.ensures
+          (c.in-Err-Full.ensures.full (ap (λ (p : Put). is_full (Err p)) c.in-Err-Full.field-0-is)),
+    )

@@ -1,4 +1,4 @@
-use Rattle.std.proofs.Common.{◌∙◌}
+use Rattle.std.proofs.Common.{rules, ◌≡◌, ◌∙◌, false, inl, inr}
 use Rattle.node_turns.proofs.Keeps.{runs_after}
 use Rattle.node_turns.proofs.node.Node.step.Goals as goal
 
@@ -33,13 +33,24 @@ returns-in-Read-clause-runs g c part r =
     (c.pour.ensures.meets part (c.read.ensures.meets part
     (record { meets = m; still = (c.in-Read.ensures.next part m.a m.poured m.at).1 })))
 
-pub returns-in-Take-clause-runs : goal.returns-in-Take-clause-runs
-returns-in-Take-clause-runs g c part r =
-    let w = c.pull-taken.ensures.runs part r in
+pub returns-else-not-pull-clause-runs : goal.returns-else-not-pull-clause-runs
+returns-else-not-pull-clause-runs g c part r =
+    let w = c.pull.ensures.runs part r in
     runs_after g.E.Machine.stands g.S.Source.gave g.S.Source.front g.S.Source.over g.K.Sink.took g.K.Sink.began
-    g.K.Sink.faults
-    part c.args.links.now.items c.pull-taken.new.self c.pour-in-Take.new.self c.pour-in-Take.ensures.ends.0
+    g.K.Sink.faults part c.args.links.now.items c.pull.new.self c.pour-in-Take.new.self c.pour-in-Take.ensures.ends.0
     c.pour-in-Take.ensures.ends.1 w (c.pour-in-Take.ensures.meets part w.meets)
+
+pub returns-then-not-pull-clause-idle : goal.returns-then-not-pull-clause-idle
+returns-then-not-pull-clause-idle g c idle =
+    let none : c.pull.result ≡ false = search rules in (
+      c.pull.ensures.still none,
+      inr (λ part m. let n = c.in-Take.ensures.next part m.a m.poured m.at in (n.0, n.1, n.2)),
+    )
+
+pub returns-in-Put-clause-idle : goal.returns-in-Put-clause-idle
+returns-in-Put-clause-idle g c idle =
+    let none : c.push.result ≡ false = c.outcome.ensures.idle idle in
+    (c.push.ensures.still none, inl (c.push.ensures.full none))
 
 pub returns-in-Done-clause-done : goal.returns-in-Done-clause-done
 returns-in-Done-clause-done g c done part r =

@@ -40,6 +40,7 @@ returns g c =
           let ran = c.launch-handles.ensures.runs parts groups_run left_run in
           c.collect.ensures.done parts
           (subst (Each E) (sym c.add.ensures.items)
-          (each_append E all.items left.items (λ i d low. absurd (omega arith)) (c.drive-left.ensures.done parts ran.1)))
+          (each_append E all.items left.items (λ i d low. absurd (omega arith))
+            (c.drive-left.ensures.done parts ran.1)))
           ran.0;
     }
