@@ -1,7 +1,6 @@
 -- What goes over a link outside regions is proper.
 use Rattle.std.proofs.Common.{ℕ, ◌<◌, Bool, true, false, List, [], ◌∷◌, ◌++◌, ◌≡◌, ◌⊎◌, refl, sym, ap, ◌∙◌, append-nil, map, inl, inr}
 use Rattle.spl_value.specs.declared.item.Item.{Item}
-use Rattle.spl_value.specs.declared.item.Item.TheVariants as I
 use Rattle.spl_value.specs.declared.packet.Packet.{Packet}
 use Rattle.spl_value.specs.declared.packet.Packet.TheVariants as P
 use Rattle.spl_value.specs.declared.types.Named.{Named}
