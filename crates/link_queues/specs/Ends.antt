@@ -17,7 +17,8 @@ pub record Lists (end_of : ShapeLink → ℕ) (links : List ShapeLink) (rows : L
 
 -- the links that lead to an element
 pub record LeadsTo (links : List ShapeLink) (element : ℕ) (row : List ℕ) : Type 0 where
-  pub listed : (l : ℕ) (x : ShapeLink) → slice_get links l ≡ Some x → x.to ≡ element → (j : ℕ) × (slice_get row j ≡ Some l)
+  pub listed : (l : ℕ) (x : ShapeLink) → slice_get links l ≡ Some x → x.to ≡ element
+      → (j : ℕ) × (slice_get row j ≡ Some l)
   pub alone : (j l : ℕ) → slice_get row j ≡ Some l → (x : ShapeLink) × (slice_get links l ≡ Some x) × (x.to ≡ element)
 
 -- one of some links that leads away from an output of its element, where there is one

@@ -4,7 +4,8 @@ use Rattle.stream_model.specs.declared.shape.ShapeLink.{ShapeLink}
 use Rattle.link_queues.specs.Links.{Waiting}
 use Rattle.link_queues.specs.Ends.{Lists, receiver, sender}
 
-pub record IsKept (ends : List ShapeLink) (queues : List Waiting) (capacity : ℕ) (entering leading : List (List ℕ)) : Type 0 where
+pub record IsKept (ends : List ShapeLink) (queues : List Waiting) (capacity : ℕ)
+    (entering leading : List (List ℕ)) : Type 0 where
   pub few : length ends < 2 ^ 32
   pub many : length queues ≡ length ends
   pub room : (l : ℕ) (w : Waiting) → slice_get queues l ≡ Some w → capacity ≤ w.room
