@@ -17,7 +17,7 @@ use Rattle.stream_model.proofs.PlainLines.{is_mark, split, may_be_marked, plain_
 use Rattle.row_reader.specs.declared.columns.Column.{Column}
 use Rattle.row_reader.specs.steps.Adding.{Added}
 use Rattle.row_reader.specs.Columns.{attribute, attributes, type_of}
-use Rattle.row_reader.specs.steps.Plain.{IsCut, is_stop_or_mark}
+use Rattle.row_reader.specs.steps.Plain.{FirstPut, IsCut, is_stop_or_mark}
 
 -- ---- the cut
 
@@ -142,26 +142,26 @@ column_at (c ∷ cs) zero d h = refl
 column_at (c ∷ cs) (suc i) d h = column_at cs i d (omega (arith, h)) ∙ ap (λ (z : List (Named SplType)). attribute (get_or cs i d) ∷ z) (drop_suc (i + 1) c cs ∙ same_drop c cs (suc (i + 1)) (suc i + 1) (omega arith))
 column_at [] i d h = absurd (omega arith)
 
-pub next_field : (columns : List Column) (line rest rest2 : List ℕ) (values values2 : List Value) (more more2 : Bool) (place end : ℕ) (d : Column) (fits : Bool)
-    → place < length columns → IsCut rest end → end < length rest → Added (field_value (type_of (get_or columns place d)) (take end rest)) fits values values2 → fits ≡ true
+pub next_field : (columns : List Column) (line rest rest2 : List ℕ) (old new : List Value) (more more2 : Bool) (place end : ℕ) (d : Column)
+    → place < length columns → FirstPut (type_of (get_or columns place d)) rest place old new end → end < length rest
     → more ≡ true → more2 ≡ more → rest2 ≡ take (length rest - (end + 1)) (drop (end + 1) rest)
-    → ReadSoFar (attributes columns) line values more rest place → ReadSoFar (attributes columns) line values2 more2 rest2 (place + 1)
-next_field columns line rest rest2 values values2 more more2 place end d fits p c h a f m m2 is r =
-    let (v, e, n) = added_fits (field_value (type_of (get_or columns place d)) (take end rest)) fits values values2 a f in
-    let before : ReadSoFar (attributes columns) line values true rest place = subst (λ (z : Bool). ReadSoFar (attributes columns) line values z rest place) m r in
-    let after : ReadSoFar (attributes columns) line values2 true rest2 (place + 1) = subst (λ (z : List ℕ). ReadSoFar (attributes columns) line values2 true z (place + 1)) (sym (is ∙ tail_is rest (end + 1)))
-    (field_more (attributes columns) line rest values values2 place end (attribute (get_or columns place d)) v (column_at columns place d p) c h e n before) in
-    subst (λ (z : Bool). ReadSoFar (attributes columns) line values2 z rest2 (place + 1)) (sym (m2 ∙ m)) after
+    → ReadSoFar (attributes columns) line (take place old) more rest place → ReadSoFar (attributes columns) line (take (place + 1) new) more2 rest2 (place + 1)
+next_field columns line rest rest2 old new more more2 place end d p f h m m2 is r =
+    let before : ReadSoFar (attributes columns) line (take place old) true rest place = subst (λ (z : Bool). ReadSoFar (attributes columns) line (take place old) z rest place) m r in
+    let after : ReadSoFar (attributes columns) line (take (place + 1) new) true rest2 (place + 1) =
+    subst (λ (z : List ℕ). ReadSoFar (attributes columns) line (take (place + 1) new) true z (place + 1)) (sym (is ∙ tail_is rest (end + 1)))
+    (field_more (attributes columns) line rest (take place old) (take (place + 1) new) place end (attribute (get_or columns place d)) f.v (column_at columns place d p) f.cut h f.value f.put.front before) in
+    subst (λ (z : Bool). ReadSoFar (attributes columns) line (take (place + 1) new) z rest2 (place + 1)) (sym (m2 ∙ m)) after
 
-pub last_field : (columns : List Column) (line rest rest2 : List ℕ) (values values2 : List Value) (more more2 : Bool) (place end : ℕ) (d : Column) (fits : Bool)
-    → place < length columns → IsCut rest end → length rest ≤ end → Added (field_value (type_of (get_or columns place d)) (take end rest)) fits values values2 → fits ≡ true
-    → more ≡ true → more2 ≡ false → rest2 ≡ rest → ReadSoFar (attributes columns) line values more rest place → ReadSoFar (attributes columns) line values2 more2 rest2 (place + 1)
-last_field columns line rest rest2 values values2 more more2 place end d fits p c h a f m m2 is r =
-    let (v, e, n) = added_fits (field_value (type_of (get_or columns place d)) (take end rest)) fits values values2 a f in
-    let before : ReadSoFar (attributes columns) line values true rest place = subst (λ (z : Bool). ReadSoFar (attributes columns) line values z rest place) m r in
-    let after = field_last (attributes columns) line rest values values2 place end (attribute (get_or columns place d)) v (column_at columns place d p) c h e n before in
-    subst (λ (z : Bool). ReadSoFar (attributes columns) line values2 z rest2 (place + 1)) (sym m2)
-    (subst (λ (z : List ℕ). ReadSoFar (attributes columns) line values2 false z (place + 1)) (sym is) after)
+pub last_field : (columns : List Column) (line rest rest2 : List ℕ) (old new : List Value) (more more2 : Bool) (place end : ℕ) (d : Column)
+    → place < length columns → FirstPut (type_of (get_or columns place d)) rest place old new end → length rest ≤ end
+    → more ≡ true → more2 ≡ false → rest2 ≡ rest → ReadSoFar (attributes columns) line (take place old) more rest place
+    → ReadSoFar (attributes columns) line (take (place + 1) new) more2 rest2 (place + 1)
+last_field columns line rest rest2 old new more more2 place end d p f h m m2 is r =
+    let before : ReadSoFar (attributes columns) line (take place old) true rest place = subst (λ (z : Bool). ReadSoFar (attributes columns) line (take place old) z rest place) m r in
+    let after = field_last (attributes columns) line rest (take place old) (take (place + 1) new) place end (attribute (get_or columns place d)) f.v (column_at columns place d p) f.cut h f.value f.put.front before in
+    subst (λ (z : Bool). ReadSoFar (attributes columns) line (take (place + 1) new) z rest2 (place + 1)) (sym m2)
+    (subst (λ (z : List ℕ). ReadSoFar (attributes columns) line (take (place + 1) new) false z (place + 1)) (sym is) after)
 
 pub columns_all : (columns : List Column) → length (attributes columns) ≡ length columns
 columns_all columns = length-map columns attribute

@@ -1,7 +1,7 @@
 -- Values of fields after others.
-use Rattle.std.specs.Prelude.{◌&&◌, ◌-◌, IsTrue, codes, if◌then◌else◌, option_map}
+use Rattle.std.specs.Prelude.{◌&&◌, IsTrue, codes, if◌then◌else◌, option_map}
 use Rattle.std.specs.Int.{w128}
-use Rattle.std.proofs.Common.{◌≡◌, ◌∙◌, ◌++◌, ◌∷◌, [], ℕ, ℤ, Bool, true, false, List, Option, Some, None, refl, sym, ap, subst, inl, inr, arith, of_z, to_z}
+use Rattle.std.proofs.Common.{◌≡◌, ◌∙◌, ◌∷◌, ◌<◌, ◌^◌, pos, [], ℕ, ℤ, Bool, true, false, List, Option, Some, None, refl, sym, ap, subst, inl, inr, arith, of_z, to_z}
 use Rattle.std.specs.Str.{bytes_eq}
 use Rattle.std.proofs.lemmas.Bool.{cases_Bool}
 use Rattle.std.proofs.lemmas.Int.{fits_signed_from_abs, to_z-of_z}
@@ -17,8 +17,9 @@ use Rattle.stream_model.specs.parts.Fields.{field_value}
 use Rattle.stream_model.proofs.parts.Fields.{in_front}
 use Rattle.row_reader.specs.declared.columns.Column.{Column}
 use Rattle.row_reader.specs.declared.columns.Column.TheVariants as C
-use Rattle.row_reader.specs.steps.Adding.{Added}
+use Rattle.row_reader.specs.steps.Adding.{IsPut, Puts}
 use Rattle.row_reader.specs.Columns.{attributes, type_of}
+use Rattle.row_reader.proofs.Puts.{puts_none, puts_some}
 use Rattle.spl_value.proofs.Widths.{within}
 
 field_int : (k : IntKind) (field : List ℕ) → field_value (T.Int k) field ≡ option_map V.Int (integer_of k field)
@@ -30,30 +31,29 @@ field_bool field b e = rw (T.outs-Bool, e) refl
 field_text : (field : List ℕ) → field_value T.Text field ≡ Some (V.Text field)
 field_text field = rw T.outs-Text refl
 
-added_none : (v : Option Value) (old new : List Value) → v ≡ None → Added v false old new
-added_none v old new e = rw e refl
+pub no_integer : (k : IntKind) (field : List ℕ) (at : ℕ) (old new : List Value) → None ≡ integer_of k field → Puts (field_value (T.Int k) field) false at old new
+no_integer k field at old new e = puts_none (field_value (T.Int k) field) at old new (field_int k field ∙ ap (option_map V.Int) (sym e))
 
-added_some : (v : Option Value) (w : Value) (old new : List Value) → v ≡ Some w → new ≡ old ++ w ∷ [] → Added v true old new
-added_some v w old new e n = rw e (refl, n)
+pub an_integer : (k : IntKind) (field : List ℕ) (n : ℤ) (at : ℕ) (old new : List Value) → Some n ≡ integer_of k field → IsPut at (V.Int n) old new
+    → Puts (field_value (T.Int k) field) true at old new
+an_integer k field n at old new e p = puts_some (field_value (T.Int k) field) (V.Int n) at old new (field_int k field ∙ ap (option_map V.Int) (sym e)) p
 
-pub no_integer : (k : IntKind) (field : List ℕ) (old new : List Value) → None ≡ integer_of k field → Added (field_value (T.Int k) field) false old new
-no_integer k field old new e = added_none (field_value (T.Int k) field) old new (field_int k field ∙ ap (option_map V.Int) (sym e))
+pub a_text : (field : List ℕ) (at : ℕ) (old new : List Value) → IsPut at (V.Text field) old new → Puts (field_value T.Text field) true at old new
+a_text field at old new p = puts_some (field_value T.Text field) (V.Text field) at old new (field_text field) p
 
-pub an_integer : (k : IntKind) (field : List ℕ) (n : ℤ) (old new : List Value) → Some n ≡ integer_of k field → new ≡ old ++ V.Int n ∷ [] → Added (field_value (T.Int k) field) true old new
-an_integer k field n old new e h = added_some (field_value (T.Int k) field) (V.Int n) old new (field_int k field ∙ ap (option_map V.Int) (sym e)) h
+pub a_true : (field : List ℕ) (at : ℕ) (old new : List Value) → bytes_eq field (codes "true") ≡ true → IsPut at (V.Bool true) old new → Puts (field_value T.Bool field) true at old new
+a_true field at old new e p = puts_some (field_value T.Bool field) (V.Bool true) at old new (field_bool field true e) p
 
-pub a_text : (field text : List ℕ) (old new : List Value) → text ≡ field → new ≡ old ++ V.Text text ∷ [] → Added (field_value T.Text field) true old new
-a_text field text old new e h = added_some (field_value T.Text field) (V.Text text) old new (field_text field ∙ ap (λ t. Some (V.Text t)) (sym e)) h
+pub a_false : (field : List ℕ) (at : ℕ) (old new : List Value) → bytes_eq field (codes "true") ≡ false → bytes_eq field (codes "false") ≡ true → IsPut at (V.Bool false) old new
+    → Puts (field_value T.Bool field) true at old new
+a_false field at old new e f p = puts_some (field_value T.Bool field) (V.Bool false) at old new (field_bool field false e ∙ rw f refl) p
 
-pub a_true : (field : List ℕ) (old new : List Value) → bytes_eq field (codes "true") ≡ true → new ≡ old ++ V.Bool true ∷ [] → Added (field_value T.Bool field) true old new
-a_true field old new e h = added_some (field_value T.Bool field) (V.Bool true) old new (field_bool field true e) h
+pub no_truth : (field : List ℕ) (at : ℕ) (old new : List Value) → bytes_eq field (codes "true") ≡ false → bytes_eq field (codes "false") ≡ false → Puts (field_value T.Bool field) false at old new
+no_truth field at old new e f = puts_none (field_value T.Bool field) at old new (field_bool field false e ∙ rw f refl)
 
-pub a_false : (field : List ℕ) (old new : List Value) → bytes_eq field (codes "true") ≡ false → bytes_eq field (codes "false") ≡ true → new ≡ old ++ V.Bool false ∷ []
-    → Added (field_value T.Bool field) true old new
-a_false field old new e f h = added_some (field_value T.Bool field) (V.Bool false) old new (field_bool field false e ∙ rw f refl) h
-
-pub no_truth : (field : List ℕ) (old new : List Value) → bytes_eq field (codes "true") ≡ false → bytes_eq field (codes "false") ≡ false → Added (field_value T.Bool field) false old new
-no_truth field old new e f = added_none (field_value T.Bool field) old new (field_bool field false e ∙ rw f refl)
+-- a short number
+pub is_number : (k : IntKind) (field : List ℕ) (n : ℤ) → integer_of k field ≡ Some n → field_value (T.Int k) field ≡ Some (V.Int n)
+is_number k field n e = field_int k field ∙ ap (option_map V.Int) e
 
 -- ---- the numbers of the kinds
 
@@ -66,6 +66,9 @@ in_kind_holds k (Some m) n e = elim (cases_Bool (kind_holds k m)) [
 
 pub kept : (k : IntKind) (field : List ℕ) (n : ℤ) → Some n ≡ integer_of k field → to_z w128 (of_z w128 n) ≡ n
 kept k field n e = let s = within k n (in_kind_holds k (integer field) n e) in to_z-of_z w128 n (fits_signed_from_abs w128 n (omega arith))
+
+pub kept_short : (n : ℕ) (z : ℤ) → z ≡ pos n → n < 10 ^ 18 → to_z w128 (of_z w128 z) ≡ pos n
+kept_short n z e small = subst (λ y. to_z w128 (of_z w128 y) ≡ pos n) (sym e) (to_z-of_z w128 (pos n) (fits_signed_from_abs w128 (pos n) (omega (arith, small))))
 
 -- ---- a row's values fit its columns
 

@@ -3,6 +3,8 @@ pub mod FieldValues
 pub mod Finding
 pub mod Gathering
 pub mod Moves
+pub mod Numbers
+pub mod Puts
 pub mod Records
 pub mod Settings
 pub mod Steps

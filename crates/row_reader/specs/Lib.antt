@@ -1,3 +1,4 @@
+pub mod Came
 pub mod Columns
 pub mod Reading
 pub mod steps

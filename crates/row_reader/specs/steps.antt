@@ -1,6 +1,6 @@
 pub mod Adding
 pub mod Finding
-pub mod Lines
 pub mod Marked
 pub mod Plain
+pub mod Short
 pub mod Steps

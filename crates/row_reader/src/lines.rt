@@ -1,118 +1,85 @@
 //! The lines of a file, one at a time.
-ghost use Rattle.std.specs.Prelude.{◌≡◌, ◌<◌, [], true, false, length, IfOk};
+ghost use Rattle.std.specs.Prelude.{◌≡◌, ◌<◌, true, length, IfOk};
 ghost use Rattle.stream_model.specs.Rows.{Row, line_gives};
 ghost use Rattle.row_reader.specs.Columns.{attributes};
-ghost use Rattle.row_reader.specs.steps.Lines.{as_given};
 ghost use Rattle.row_reader.specs.steps.Marked.{given_of};
 
-use crate::columns::{Column, Spare};
+use crate::columns::Column;
 use crate::marked::{LineGives, read_marked};
 use crate::unmarked::read_plain;
 use spl_value::{NoMemory, Values};
+use std::alloc::Global;
 
-/// What a line gives.
-#[derive(Drop)]
-pub enum Given {
-    Row(Values),
-    Nothing,
-    Bad,
-}
-
-/// The columns of a file, and room for what its lines give.
+/// The columns of a file, and room for a field in quotes.
 pub struct Lines {
+    pub alloc: Global,
     pub columns: Vec<Column>,
-    pub spare: Spare,
-    // A field in quotes.
     pub field: Vec<u8>,
 }
 
 impl Drop for Lines {
     fn drop(self) {
         let Lines {
+            alloc: _,
             columns: _,
-            spare: _,
             field: _,
         } = self;
     }
 }
 
-/// Adds the values of a line's fields, where it is split at its commas where it stands.
+/// Puts the values of a line's fields, where it is split at its commas where it stands.
+#[inline(always)]
 fn try_plain(
-    values: &mut Values,
-    spare: &mut Spare,
+    alloc: Global,
+    tuple: &mut Values,
     columns: &[Column],
     line: &[u8],
 ) -> Result<bool, NoMemory>
-    requires none { values.old ≡ [] }
     requires some { 0 < length line.now }
     ensures row { IfOk result (λ plain. plain ≡ true
-        → line_gives (attributes columns.now) line.now ≡ Row values.new) }
-    ensures none { IfOk result (λ plain. plain ≡ false → values.new ≡ []) }
+        → line_gives (attributes columns.now) line.now ≡ Row tuple.new) }
 {
     if line[0] == 0xEF {
         return Ok(false);
     }
-    if read_plain(values, spare, columns, line)? {
-        return Ok(true);
-    }
-    values.clear();
-    Ok(false)
+    read_plain(alloc, tuple, columns, line)
 }
 
-/// Reads a line.
+/// Reads a line. The values of a row stand in the tuple then.
+#[inline(always)]
 fn read_line(
-    values: &mut Values,
-    spare: &mut Spare,
+    alloc: Global,
+    tuple: &mut Values,
     field: &mut Vec<u8>,
     columns: &[Column],
     line: &[u8],
 ) -> Result<LineGives, NoMemory>
-    requires none { values.old ≡ [] }
     ensures { IfOk result (λ given. line_gives (attributes columns.now) line.now
-        ≡ given_of given values.new) }
+        ≡ given_of given tuple.new) }
 {
     if line.is_empty() {
         return Ok(LineGives::Nothing);
     }
-    if try_plain(values, spare, columns, line)? {
+    if try_plain(alloc, tuple, columns, line)? {
         return Ok(LineGives::Row);
     }
-    read_marked(values, spare, field, columns, line)
+    read_marked(alloc, tuple, field, columns, line)
 }
 
 impl Lines {
-    /// What a line gives.
-    pub(crate) fn read(&mut self, line: &[u8]) -> Result<Given, NoMemory>
-        ensures given { IfOk result (λ given.
-            as_given given ≡ line_gives (attributes self.old.columns.items) line.now) }
+    /// What a line gives. The values of a row are written over those of a tuple.
+    #[inline(always)]
+    pub(crate) fn read(&mut self, tuple: &mut Values, line: &[u8]) -> Result<LineGives, NoMemory>
+        ensures given { IfOk result (λ given. given_of given tuple.new
+            ≡ line_gives (attributes self.old.columns.items) line.now) }
         ensures columns { self.new.columns.items ≡ self.old.columns.items }
     {
-        let mut values = self.spare.list(self.columns.len())?;
-        match read_line(
-            &mut values,
-            &mut self.spare,
+        read_line(
+            self.alloc,
+            tuple,
             &mut self.field,
             self.columns.as_slice(),
             line,
-        )? {
-            LineGives::Row => Ok(Given::Row(values)),
-            LineGives::Nothing => {
-                self.spare.list = Some(values);
-                Ok(Given::Nothing)
-            }
-            LineGives::Bad => {
-                self.spare.list = Some(values);
-                Ok(Given::Bad)
-            }
-        }
-    }
-
-    /// Keeps the room of a tuple's list and of its texts.
-    pub(crate) fn give_back(&mut self, values: Values)
-        ensures { self.new.columns.items ≡ self.old.columns.items }
-    {
-        let mut values = values;
-        self.spare.take_texts(&mut values, self.columns.len());
-        self.spare.list = Some(values);
+        )
     }
 }

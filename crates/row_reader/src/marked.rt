@@ -1,5 +1,5 @@
 //! A line with a quote, a carriage return or a byte order mark, read as `csv` reads it.
-ghost use Rattle.std.specs.Prelude.{◌≡◌, ◌≤◌, ◌<◌, ◌+◌, ◌==◌, ◌&&◌, nat_lt, min, [], ℕ, List, true, false, drop, length, slice_index, IfOk};
+ghost use Rattle.std.specs.Prelude.{◌≡◌, ◌≤◌, ◌<◌, ◌+◌, ◌==◌, ◌&&◌, nat_lt, min, [], ℕ, List, true, false, drop, length, slice_index, take, IfOk, IfSome};
 ghost use Rattle.csv.specs.Machine.{next_record};
 ghost use Rattle.csv.specs.Reading.{default_config, records, strip_bom};
 ghost use Rattle.csv.specs.declared.parser.State.TheVariants as st;
@@ -7,9 +7,11 @@ ghost use Rattle.stream_model.specs.Rows.{line_gives, of_records};
 ghost use Rattle.row_reader.specs.Columns.{attributes, type_of};
 ghost use Rattle.row_reader.specs.steps.Marked.{IsRun, MarkedField, StopsAt, first_record, given_of};
 
-use crate::columns::{Column, Spare, add_field};
+use crate::columns::{Column, put_field};
 use crate::find::find;
+use crate::places::shorten;
 use spl_value::{NoMemory, Values};
+use std::alloc::Global;
 
 /// What a line gives. The values of a row stand beside it.
 #[derive(Clone, Copy)]
@@ -108,67 +110,76 @@ fn add_quoted(field: &mut Vec<u8>, text: &[u8], from: usize) -> Result<usize, No
     Ok(at)
 }
 
-/// Adds the value of a field that begins with a quote.
-fn add_quoted_field(
-    values: &mut Values,
-    spare: &mut Spare,
+/// Puts the value of a field that begins with a quote.
+fn put_quoted_field(
+    alloc: Global,
+    tuple: &mut Values,
+    place: usize,
     field: &mut Vec<u8>,
     column: Column,
     text: &[u8],
     at: usize,
 ) -> Result<Option<usize>, NoMemory>
+    requires room { place ≤ length tuple.old }
     requires within { at < length text.now }
     requires quote { slice_index text.now at ≡ 34 }
-    ensures { IfOk result (MarkedField (type_of column) text.now at values.old values.new) }
+    ensures put { IfOk result (MarkedField (type_of column) text.now at (take place tuple.old) (take (place + 1) tuple.new)) }
+    ensures room { IfOk result (λ end. IfSome end (λ _. place + 1 ≤ length tuple.new)) }
 {
     field.clear();
     let closed = add_quoted(field, text, at + 1)?;
     let end = run_end(text, closed);
     field.extend_from_slice(&text[closed..end])?;
-    if add_field(values, spare, column, field.as_slice())? {
+    if put_field(alloc, tuple, place, column, field.as_slice())? {
         Ok(Some(end))
     } else {
         Ok(None)
     }
 }
 
-/// Adds the value of a field that doesn't begin with a quote.
-fn add_bare_field(
-    values: &mut Values,
-    spare: &mut Spare,
+/// Puts the value of a field that doesn't begin with a quote.
+fn put_bare_field(
+    alloc: Global,
+    tuple: &mut Values,
+    place: usize,
     column: Column,
     text: &[u8],
     at: usize,
 ) -> Result<Option<usize>, NoMemory>
+    requires room { place ≤ length tuple.old }
     requires within { at ≤ length text.now }
     requires bare { at < length text.now → slice_index text.now at ≡ 34 → ⊥ }
-    ensures { IfOk result (MarkedField (type_of column) text.now at values.old values.new) }
+    ensures put { IfOk result (MarkedField (type_of column) text.now at (take place tuple.old) (take (place + 1) tuple.new)) }
+    ensures room { IfOk result (λ end. IfSome end (λ _. place + 1 ≤ length tuple.new)) }
 {
     let end = run_end(text, at);
-    if add_field(values, spare, column, &text[at..end])? {
+    if put_field(alloc, tuple, place, column, &text[at..end])? {
         Ok(Some(end))
     } else {
         Ok(None)
     }
 }
 
-/// Adds the value of the field that begins here, where it fits the column, and answers where it
-/// ends.
-fn add_marked_field(
-    values: &mut Values,
-    spare: &mut Spare,
+/// Puts the value of the field that begins here at a place of the tuple, where it fits the column, and answers where the
+/// field ends.
+fn put_marked_field(
+    alloc: Global,
+    tuple: &mut Values,
+    place: usize,
     field: &mut Vec<u8>,
     column: Column,
     text: &[u8],
     at: usize,
 ) -> Result<Option<usize>, NoMemory>
-    requires { at ≤ length text.now }
-    ensures { IfOk result (MarkedField (type_of column) text.now at values.old values.new) }
+    requires room { place ≤ length tuple.old }
+    requires within { at ≤ length text.now }
+    ensures put { IfOk result (MarkedField (type_of column) text.now at (take place tuple.old) (take (place + 1) tuple.new)) }
+    ensures room { IfOk result (λ end. IfSome end (λ _. place + 1 ≤ length tuple.new)) }
 {
     if at < text.len() && text[at] == b'"' {
-        add_quoted_field(values, spare, field, column, text, at)
+        put_quoted_field(alloc, tuple, place, field, column, text, at)
     } else {
-        add_bare_field(values, spare, column, text, at)
+        put_bare_field(alloc, tuple, place, column, text, at)
     }
 }
 
@@ -187,29 +198,28 @@ fn next_place(text: &[u8], at: usize) -> usize
 }
 
 /// Reads the first record of a text, which begins here, as the fields of a row, and looks for a
-/// second one after it.
+/// second one after it. The values of a row stand in the tuple then.
 fn read_record(
-    values: &mut Values,
-    spare: &mut Spare,
+    alloc: Global,
+    tuple: &mut Values,
     field: &mut Vec<u8>,
     columns: &[Column],
     text: &[u8],
     from: usize,
 ) -> Result<LineGives, NoMemory>
-    requires none { values.old ≡ [] }
     requires within { from < length text.now }
     requires starts { first_record text.now
         ≡ next_record default_config st.StartField [] [] (drop from text.now) }
     ensures { IfOk result (λ given. of_records (attributes columns.now)
-        (records default_config text.now) ≡ given_of given values.new) }
+        (records default_config text.now) ≡ given_of given tuple.new) }
 {
     let mut at = from;
     let mut more = true;
-    'columns: for column in columns {
+    'columns: for (place, column) in columns.iter().enumerate() {
         if !more {
             return Ok(LineGives::Bad);
         }
-        match add_marked_field(values, spare, field, *column, text, at)? {
+        match put_marked_field(alloc, tuple, place, field, *column, text, at)? {
             None => return Ok(LineGives::Bad),
             Some(end) => {
                 more = is_comma_at(text, end);
@@ -223,25 +233,27 @@ fn read_record(
     if behind_ends(text, at) < text.len() {
         return Ok(LineGives::Bad);
     }
+    shorten(tuple, columns.len());
     Ok(LineGives::Row)
 }
 
-/// Reads any line. The values and the field are empty before it.
+/// Reads any line. The field is empty before it.
+#[cold]
+#[inline(never)]
 pub(crate) fn read_marked(
-    values: &mut Values,
-    spare: &mut Spare,
+    alloc: Global,
+    tuple: &mut Values,
     field: &mut Vec<u8>,
     columns: &[Column],
     line: &[u8],
 ) -> Result<LineGives, NoMemory>
-    requires none { values.old ≡ [] }
     ensures { IfOk result (λ given. line_gives (attributes columns.now) line.now
-        ≡ given_of given values.new) }
+        ≡ given_of given tuple.new) }
 {
     let text = behind_mark(line);
     let from = behind_ends(text, 0);
     if from < text.len() {
-        read_record(values, spare, field, columns, text, from)
+        read_record(alloc, tuple, field, columns, text, from)
     } else {
         Ok(LineGives::Nothing)
     }

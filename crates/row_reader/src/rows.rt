@@ -7,17 +7,20 @@ ghost use Rattle.feed_pour.specs.Counts.{Counted};
 ghost use Rattle.feed_pour.specs.Contents.{PieceGiven, failed_read};
 ghost use Rattle.language_model.specs.Checking.{has_text_form};
 ghost use Rattle.stream_model.specs.Rows.{Setting, line_gives, rows, source_fault, too_long};
+ghost use Rattle.stream_model.specs.Stream.{is_tuple};
 ghost use Rattle.spl_value.specs.Numbered.{closes};
 ghost use Rattle.row_reader.specs.declared.rows.Stage.TheVariants as S;
 ghost use Rattle.row_reader.specs.Columns.{attributes};
 ghost use Rattle.row_reader.specs.steps.Finding.{IsFirstAt};
-ghost use Rattle.row_reader.specs.steps.Lines.{as_given};
+ghost use Rattle.row_reader.specs.steps.Marked.{given_of};
 
-use crate::columns::{Spare, columns_of};
+use crate::came::Came;
+use crate::columns::columns_of;
 use crate::find::find;
-use crate::lines::{Given, Lines};
+use crate::lines::Lines;
+use crate::marked::LineGives;
 use feed_pour::{Failed, Feed};
-use spl_value::{Fault, FaultKind, Item, NoMemory, Schema, Values};
+use spl_value::{Fault, FaultKind, Item, Items, NoMemory, Schema, Values};
 use std::alloc::Global;
 
 const PIECE: usize = 8192;
@@ -52,6 +55,8 @@ pub struct Rows {
     line: u64,
     left: u64,
     stage: Stage,
+    // A tuple that was given back, to be written over.
+    spare: Option<Values>,
     ghost whole: { length piece.items ≡ 8192 },
     ghost within: { at ≤ filled },
     ghost inside: { filled ≤ 8192 },
@@ -74,6 +79,7 @@ impl Drop for Rows {
             line: _,
             left: _,
             stage: _,
+            spare: _,
         } = self;
     }
 }
@@ -97,17 +103,20 @@ fn length_of(bytes: &Vec<u8>) -> usize
     bytes.as_slice().len()
 }
 
-/// What a line gives whose first bytes are in `carry` and whose others are at `from..to`.
+/// What a line gives whose first bytes are in `carry` and whose others are at `from..to`. The values of a row stand in the
+/// tuple then.
+#[inline(always)]
 fn read_ended(
     lines: &mut Lines,
+    tuple: &mut Values,
     carry: &mut Vec<u8>,
     piece: &Vec<u8>,
     from: usize,
     to: usize,
-) -> Result<Given, NoMemory>
+) -> Result<LineGives, NoMemory>
     requires start { from ≤ to }
     requires end { to ≤ length piece.now.items }
-    ensures given { IfOk result (λ given. as_given given
+    ensures given { IfOk result (λ given. given_of given tuple.new
         ≡ line_gives (attributes lines.old.columns.items)
         (carry.old.items ++ take (to - from) (drop from piece.now.items))) }
     ensures columns { lines.new.columns.items ≡ lines.old.columns.items }
@@ -115,16 +124,21 @@ fn read_ended(
 {
     let ended = &piece[from..to];
     if carry.is_empty() {
-        return lines.read(ended);
+        return lines.read(tuple, ended);
     }
-    read_carried(lines, carry, ended)
+    read_carried(lines, tuple, carry, ended)
 }
 
 /// What a line gives whose first bytes are in `carry`.
 #[cold]
 #[inline(never)]
-fn read_carried(lines: &mut Lines, carry: &mut Vec<u8>, ended: &[u8]) -> Result<Given, NoMemory>
-    ensures given { IfOk result (λ given. as_given given
+fn read_carried(
+    lines: &mut Lines,
+    tuple: &mut Values,
+    carry: &mut Vec<u8>,
+    ended: &[u8],
+) -> Result<LineGives, NoMemory>
+    ensures given { IfOk result (λ given. given_of given tuple.new
         ≡ line_gives (attributes lines.old.columns.items) (carry.old.items ++ ended.now)) }
     ensures columns { lines.new.columns.items ≡ lines.old.columns.items }
     ensures cleared { carry.new.items ≡ [] }
@@ -133,7 +147,7 @@ fn read_carried(lines: &mut Lines, carry: &mut Vec<u8>, ended: &[u8]) -> Result<
         carry.clear();
         return Err(NoMemory);
     }
-    let given = lines.read(carry.as_slice());
+    let given = lines.read(tuple, carry.as_slice());
     carry.clear();
     given
 }
@@ -161,10 +175,19 @@ fn feed_at(piece: &Vec<u8>, from: usize, to: usize) -> Option<usize>
     find(b'\n', &piece[from..to])
 }
 
+/// A tuple that was given back, or an empty one with room for so many values.
+fn room_in(spare: &mut Option<Values>, alloc: Global, count: usize) -> Result<Values, NoMemory> {
+    match spare.take() {
+        Some(tuple) => Ok(tuple),
+        None => Ok(Items::with_capacity(alloc, count)?),
+    }
+}
+
 impl Rows {
+    ghost use Rattle.row_reader.specs.Came.{IsPlaced, failed_came, item_of};
     ghost use Rattle.row_reader.specs.Reading.{Gives, IsFor, FitsSetting, failed_next, is_over, most_left, setting, setting_of, to_come};
     ghost use Rattle.stream_model.specs.SourceFaults.{is_read_fault};
-    ghost use Rattle.row_reader.specs.steps.Steps.{GaveItem, IsBehind, IsEnd, IsKept, IsLast, IsMark, IsRead, IsStop, Moves, Stepped, failed_step, placed};
+    ghost use Rattle.row_reader.specs.steps.Steps.{GaveItem, IsBehind, IsEnd, IsKept, IsLast, IsMark, IsRead, IsStop, Moves, Stepped, failed_step, item_in, placed, placed_in};
 
     /// A source that has read nothing. Its schema has integers, booleans and texts.
     pub fn new(
@@ -182,16 +205,11 @@ impl Rows {
         ensures open { IfOk result (λ r. is_over r ≡ false) }
     {
         let columns = columns_of(alloc, schema.as_slice())?;
-        let texts = Vec::with_capacity(alloc, columns.len())?;
         let piece = vec![in alloc; 0u8; PIECE]?;
         Ok(Rows {
             lines: Lines {
+                alloc,
                 columns,
-                spare: Spare {
-                    alloc,
-                    list: None,
-                    texts,
-                },
                 field: Vec::new(alloc),
             },
             op,
@@ -204,6 +222,7 @@ impl Rows {
             line: 1,
             left: limit,
             stage: Stage::Reading,
+            spare: None,
         })
     }
 
@@ -212,6 +231,7 @@ impl Rows {
     #[inline(never)]
     fn stop(&mut self, kind: FaultKind, line: u64) -> Item
         ensures item { result ≡ source_fault (setting_of self.old) kind line }
+        ensures apart { is_tuple result ≡ false }
         ensures done { IsStop self.old self.new }
     {
         self.stage = Stage::Done;
@@ -222,14 +242,15 @@ impl Rows {
         })
     }
 
-    /// Reads the line whose line feed stands `i` bytes further on, and passes it.
-    #[inline]
-    fn take_line(&mut self, i: usize) -> Result<Given, NoMemory>
+    /// Reads the line whose line feed stands `i` bytes further on, and passes it. The values of a row stand in the tuple
+    /// then.
+    #[inline(always)]
+    fn take_line(&mut self, tuple: &mut Values, i: usize) -> Result<LineGives, NoMemory>
         requires end { IsFirstAt 10 (take (self.old.filled - self.old.at)
             (drop self.old.at self.old.piece.items)) i }
         requires short { too_long (length self.old.carry.items + i)
             (length self.old.carry.items + i + 1) self.old.left ≡ None }
-        ensures given { IfOk result (λ given. as_given given
+        ensures given { IfOk result (λ given. given_of given tuple.new
             ≡ line_gives (attributes self.old.lines.columns.items) (self.old.carry.items
             ++ take (self.old.at + i - self.old.at) (drop self.old.at self.old.piece.items))) }
         ensures behind { IfOk result (λ _.
@@ -239,6 +260,7 @@ impl Rows {
         let from = self.at;
         let given = read_ended(
             &mut self.lines,
+            tuple,
             &mut self.carry,
             &self.piece,
             from,
@@ -251,26 +273,28 @@ impl Rows {
     }
 
     /// Gives the line whose line feed stands `i` bytes further on.
-    fn end_line(&mut self, i: usize) -> Result<Option<Item>, NoMemory>
+    #[inline(always)]
+    fn end_line(&mut self, tuple: &mut Values, i: usize) -> Result<Option<Came>, NoMemory>
         requires reading { self.old.stage ≡ S.Reading }
         requires end { IsFirstAt 10 (take (self.old.filled - self.old.at)
             (drop self.old.at self.old.piece.items)) i }
-        ensures step { IfOk result (Stepped self.old self.new) }
+        ensures step { IfOk result (λ o. Stepped self.old self.new (item_in o tuple.new)) }
         ensures coming { IfOk result (λ o. (s : Option Script)
-            → Moves (to_come self.old s) o (to_come self.new s)) }
+            → Moves (to_come self.old s) (item_in o tuple.new) (to_come self.new s)) }
+        ensures placed { IfOk result placed_in }
         ensures whole { failed_step result ≡ false }
     {
         let line = self.line;
         let len = length_of(&self.carry) + i;
         if let Some(kind) = long_fault(len, len + 1, self.left) {
-            return Ok(Some(self.stop(kind, line)));
+            return Ok(Some(Came::Other(self.stop(kind, line))));
         }
-        match self.take_line(i)? {
-            Given::Row(values) => Ok(Some(Item::Tuple(values))),
-            Given::Nothing => Ok(None),
-            Given::Bad => {
+        match self.take_line(tuple, i)? {
+            LineGives::Row => Ok(Some(Came::Tuple)),
+            LineGives::Nothing => Ok(None),
+            LineGives::Bad => {
                 if self.strict {
-                    Ok(Some(self.stop(FaultKind::BadRow, line)))
+                    Ok(Some(Came::Other(self.stop(FaultKind::BadRow, line))))
                 } else {
                     Ok(None)
                 }
@@ -314,13 +338,13 @@ impl Rows {
         Item::Window
     }
 
-    /// Reads the line that is kept.
-    fn read_last(&mut self) -> Result<Given, NoMemory>
-        ensures given { IfOk result (λ given. as_given given
+    /// Reads the line that is kept. The values of a row stand in the tuple then.
+    fn read_last(&mut self, tuple: &mut Values) -> Result<LineGives, NoMemory>
+        ensures given { IfOk result (λ given. given_of given tuple.new
             ≡ line_gives (attributes self.old.lines.columns.items) self.old.carry.items) }
         ensures same { IfOk result (λ _. IsLast self.old self.new) }
     {
-        self.lines.read(self.carry.as_slice())
+        self.lines.read(tuple, self.carry.as_slice())
     }
 
     /// No more lines come.
@@ -331,32 +355,33 @@ impl Rows {
     }
 
     /// Gives the last line, or the window marker where it gives nothing.
-    fn finish(&mut self) -> Result<Item, NoMemory>
+    fn finish(&mut self, tuple: &mut Values) -> Result<Came, NoMemory>
         requires reading { self.old.stage ≡ S.Reading }
         requires empty { self.old.filled ≡ 0 }
         requires short { too_long (length self.old.carry.items) (length self.old.carry.items)
             self.old.left ≡ None }
-        ensures step { IfOk result (GaveItem self.old self.new) }
-        ensures coming { IfOk result (λ item. (s after : Option Script)
+        ensures step { IfOk result (λ came. GaveItem self.old self.new (item_of came tuple.new)) }
+        ensures coming { IfOk result (λ came. (s after : Option Script)
             → IfSome s (λ s. s ≡ record { bytes = []; ending = End })
-            → Gives (to_come self.old s) item (to_come self.new after)) }
-        ensures whole { failed_next result ≡ false }
+            → Gives (to_come self.old s) (item_of came tuple.new) (to_come self.new after)) }
+        ensures placed { IfOk result IsPlaced }
+        ensures whole { failed_came result ≡ false }
     {
         let line = self.line;
         if length_of(&self.carry) == 0 {
-            return Ok(self.mark());
+            return Ok(Came::Other(self.mark()));
         }
-        match self.read_last()? {
-            Given::Row(values) => {
+        match self.read_last(tuple)? {
+            LineGives::Row => {
                 self.end();
-                Ok(Item::Tuple(values))
+                Ok(Came::Tuple)
             }
-            Given::Nothing => Ok(self.mark()),
-            Given::Bad => {
+            LineGives::Nothing => Ok(Came::Other(self.mark())),
+            LineGives::Bad => {
                 if self.strict {
-                    Ok(self.stop(FaultKind::BadRow, line))
+                    Ok(Came::Other(self.stop(FaultKind::BadRow, line)))
                 } else {
-                    Ok(self.mark())
+                    Ok(Came::Other(self.mark()))
                 }
             }
         }
@@ -364,53 +389,58 @@ impl Rows {
 
     /// Reads the next piece.
     #[inline(never)]
-    fn fill<F: Feed>(&mut self, feed: &mut F) -> Result<Option<Item>, NoMemory>
+    fn fill<F: Feed>(&mut self, feed: &mut F, tuple: &mut Values) -> Result<Option<Came>, NoMemory>
         requires reading { self.old.stage ≡ S.Reading }
         requires none { list_any (λ b. b == 10) (take (self.old.filled - self.old.at)
             (drop self.old.at self.old.piece.items)) ≡ false }
-        ensures step { IfOk result (Stepped self.old self.new) }
-        ensures coming { IfOk result (λ o. Moves (to_come self.old (F.script feed.old)) o
+        ensures step { IfOk result (λ o. Stepped self.old self.new (item_in o tuple.new)) }
+        ensures coming { IfOk result (λ o. Moves (to_come self.old (F.script feed.old)) (item_in o tuple.new)
             (to_come self.new (F.script feed.new))) }
+        ensures placed { IfOk result placed_in }
         ensures cause { Counted (failed_step result) (F.faults feed.old) (F.faults feed.new) }
     {
         self.keep_held()?;
         let line = self.line;
         let len = length_of(&self.carry);
         if let Some(kind) = long_fault(len, len, self.left) {
-            return Ok(Some(self.stop(kind, line)));
+            return Ok(Some(Came::Other(self.stop(kind, line))));
         }
         match self.read_piece(feed) {
-            Ok(0) => Ok(Some(self.finish()?)),
+            Ok(0) => Ok(Some(self.finish(tuple)?)),
             Ok(_) => Ok(None),
-            Err(_) => Ok(Some(self.stop(FaultKind::ReadFailed, line))),
+            Err(_) => Ok(Some(Came::Other(self.stop(FaultKind::ReadFailed, line)))),
         }
     }
 
     /// Gives the next line of the piece, or reads the next piece.
-    fn step<F: Feed>(&mut self, feed: &mut F) -> Result<Option<Item>, NoMemory>
+    #[inline(always)]
+    fn step<F: Feed>(&mut self, feed: &mut F, tuple: &mut Values) -> Result<Option<Came>, NoMemory>
         requires { self.old.stage ≡ S.Reading }
-        ensures step { IfOk result (Stepped self.old self.new) }
-        ensures coming { IfOk result (λ o. Moves (to_come self.old (F.script feed.old)) o
+        ensures step { IfOk result (λ o. Stepped self.old self.new (item_in o tuple.new)) }
+        ensures coming { IfOk result (λ o. Moves (to_come self.old (F.script feed.old)) (item_in o tuple.new)
             (to_come self.new (F.script feed.new))) }
+        ensures placed { IfOk result placed_in }
         ensures cause { Counted (failed_step result) (F.faults feed.old) (F.faults feed.new) }
     {
         match feed_at(&self.piece, self.at, self.filled) {
-            Some(i) => self.end_line(i),
-            None => self.fill(feed),
+            Some(i) => self.end_line(tuple, i),
+            None => self.fill(feed, tuple),
         }
     }
 
     /// Reads on to the next item.
-    fn read_on<F: Feed>(&mut self, feed: &mut F) -> Result<Item, NoMemory>
+    #[inline(always)]
+    fn read_on<F: Feed>(&mut self, feed: &mut F, tuple: &mut Values) -> Result<Came, NoMemory>
         requires { self.old.stage ≡ S.Reading }
-        ensures step { IfOk result (GaveItem self.old self.new) }
-        ensures coming { IfOk result (λ item. Gives (to_come self.old (F.script feed.old)) item
+        ensures step { IfOk result (λ came. GaveItem self.old self.new (item_of came tuple.new)) }
+        ensures coming { IfOk result (λ came. Gives (to_come self.old (F.script feed.old)) (item_of came tuple.new)
             (to_come self.new (F.script feed.new))) }
-        ensures cause { Counted (failed_next result) (F.faults feed.old) (F.faults feed.new) }
+        ensures placed { IfOk result IsPlaced }
+        ensures cause { Counted (failed_came result) (F.faults feed.old) (F.faults feed.new) }
     {
         'steps: loop {
-            if let Some(item) = self.step(feed)? {
-                return Ok(item);
+            if let Some(came) = self.step(feed, tuple)? {
+                return Ok(came);
             }
         }
     }
@@ -424,20 +454,40 @@ impl Rows {
         Item::Final
     }
 
-    /// The next item, as `Rows::next` gives it.
-    fn next_item<F: Feed>(&mut self, feed: &mut F) -> Result<Item, NoMemory>
+    /// Gives the next item, as `Rows::next_over` does.
+    #[inline(always)]
+    fn next_item<F: Feed>(&mut self, feed: &mut F, tuple: &mut Values) -> Result<Came, NoMemory>
         requires { is_over self.old ≡ false }
-        ensures step { IfOk result (GaveItem self.old self.new) }
-        ensures coming { IfOk result (λ item. Gives (to_come self.old (F.script feed.old)) item
+        ensures step { IfOk result (λ came. GaveItem self.old self.new (item_of came tuple.new)) }
+        ensures coming { IfOk result (λ came. Gives (to_come self.old (F.script feed.old)) (item_of came tuple.new)
             (to_come self.new (F.script feed.new))) }
-        ensures cause { Counted (failed_next result) (F.faults feed.old) (F.faults feed.new) }
+        ensures placed { IfOk result IsPlaced }
+        ensures cause { Counted (failed_came result) (F.faults feed.old) (F.faults feed.new) }
     {
         match self.stage {
-            Stage::Reading => self.read_on(feed),
-            Stage::Ended => Ok(self.mark()),
-            Stage::Marked => Ok(self.close()),
+            Stage::Reading => self.read_on(feed, tuple),
+            Stage::Ended => Ok(Came::Other(self.mark())),
+            Stage::Marked => Ok(Came::Other(self.close())),
             Stage::Done => unreachable!(),
         }
+    }
+
+    /// Reads the next item. The values of a tuple are written over those that stand in `tuple`, whose room is used again: a
+    /// row of integers, booleans and texts takes no memory once there is room for it. Of any other item it is of no account
+    /// what stands there then. The feed is the one whose bytes were read so far. An `Err` leaves the source spent.
+    #[inline(always)]
+    pub fn next_over<F: Feed>(&mut self, feed: &mut F, tuple: &mut Values) -> Result<Came, NoMemory>
+        requires { is_over self.old ≡ false }
+        ensures coming { IfOk result (λ came. Gives (to_come self.old (F.script feed.old)) (item_of came tuple.new)
+            (to_come self.new (F.script feed.new))) }
+        ensures placed { IfOk result IsPlaced }
+        ensures over { IfOk result (λ came. is_over self.new ≡ closes (item_of came tuple.new)) }
+        ensures has { IfOk result (λ came. (o : Setting) → IsFor self.old o → FitsSetting o (item_of came tuple.new)) }
+        ensures kept { IfOk result (λ _. (o : Setting) → IsFor self.old o → IsFor self.new o) }
+        ensures fewer { IfOk result (λ _. most_left self.new < most_left self.old) }
+        ensures cause { Counted (failed_came result) (F.faults feed.old) (F.faults feed.new) }
+    {
+        self.next_item(feed, tuple)
     }
 
     /// The next item. The feed is the one whose bytes were read so far. An `Err` leaves the source
@@ -452,16 +502,23 @@ impl Rows {
         ensures fewer { IfOk result (λ _. most_left self.new < most_left self.old) }
         ensures cause { Counted (failed_next result) (F.faults feed.old) (F.faults feed.new) }
     {
-        self.next_item(feed)
+        let mut tuple = room_in(&mut self.spare, self.lines.alloc, self.lines.columns.len())?;
+        match self.next_over(feed, &mut tuple)? {
+            Came::Tuple => Ok(Item::Tuple(tuple)),
+            Came::Other(item) => {
+                self.spare = Some(tuple);
+                Ok(item)
+            }
+        }
     }
 
-    /// Hands a tuple's list back, to be filled again, with the room of its texts.
+    /// Hands a tuple back, whose room is used again.
     pub fn give_back(&mut self, values: Values)
         ensures coming { (s : Option Script) → to_come self.new s ≡ to_come self.old s }
         ensures over { is_over self.new ≡ is_over self.old }
         ensures left { most_left self.new ≡ most_left self.old }
         ensures kept { (o : Setting) → IsFor self.old o → IsFor self.new o }
     {
-        self.lines.give_back(values);
+        self.spare = Some(values);
     }
 }

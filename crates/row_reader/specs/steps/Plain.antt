@@ -1,6 +1,10 @@
 -- Lines that read as the fields between their commas.
-use Rattle.std.specs.Prelude.{◌≡◌, ◌≤◌, ◌<◌, ◌==◌, ◌||◌, Bool, false, ℕ, List, [], ◌∷◌, length, take, slice_index}
+use Rattle.std.specs.Prelude.{◌≡◌, ◌≤◌, ◌<◌, ◌==◌, ◌||◌, Bool, false, ℕ, List, [], ◌∷◌, Some, length, take, slice_index}
 use Rattle.std.specs.List.{list_any}
+use Rattle.spl_value.specs.declared.types.SplType.{SplType}
+use Rattle.spl_value.specs.declared.value.Value.{Value}
+use Rattle.stream_model.specs.parts.Fields.{field_value}
+use Rattle.row_reader.specs.steps.Adding.{IsPut}
 
 -- a byte that means something to `csv` beside a comma
 abbrev pub is_mark : ℕ → Bool
@@ -20,3 +24,10 @@ pub record IsCut (line : List ℕ) (end : ℕ) : Type 0 where
   pub within : end ≤ length line
   pub free : list_any is_stop_or_mark (take end line) ≡ false
   pub comma : end < length line → slice_index line end ≡ 44
+
+-- the first field has `end` bytes, and its value stands at a place of a tuple
+pub record FirstPut (t : SplType) (line : List ℕ) (at : ℕ) (old new : List Value) (end : ℕ) : Type 0 where
+  pub v : Value
+  pub cut : IsCut line end
+  pub value : field_value t (take end line) ≡ Some v
+  pub put : IsPut at v old new

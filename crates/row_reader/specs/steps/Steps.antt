@@ -2,12 +2,14 @@
 use Rattle.std.specs.Prelude.{◌≡◌, ◌<◌, ◌≤◌, ◌+◌, ◌-◌, ◌++◌, ⊤, ℕ, Bool, false, List, [], length, take, drop, Option, Some, None, Result, Ok, Err}
 use Rattle.spl_value.specs.declared.item.Item.{Item}
 use Rattle.spl_value.specs.declared.memory.NoMemory.{NoMemory}
+use Rattle.spl_value.specs.declared.value.Value.{Value}
 use Rattle.feed_pour.specs.declared.outside.Failed.{Failed}
 use Rattle.spl_value.specs.Numbered.{closes}
+use Rattle.row_reader.specs.declared.came.Came.{Came}
 use Rattle.row_reader.specs.declared.rows.Rows.{Rows}
 use Rattle.row_reader.specs.declared.rows.Stage.TheVariants as S
+use Rattle.row_reader.specs.Came.{IsPlaced, failed_came, item_of}
 use Rattle.row_reader.specs.Reading.{Gives, FitsSetting, is_over, most_left, setting_of}
-use Rattle.stream_model.specs.SourceFaults.{is_read_fault}
 
 -- how many bytes are held
 abbrev pub held_size : Rows → ℕ
@@ -44,10 +46,19 @@ abbrev pub Stepped : Rows → Rows → Option Item → Type 0
 Stepped a b (Some item) = GaveItem a b item
 Stepped a b None = GaveNone a b
 
+-- the item that a step gives, with what stands at the place
+abbrev pub item_in : Option Came → List Value → Option Item
+item_in None values = None
+item_in (Some came) values = Some (item_of came values)
+
+abbrev pub placed_in : Option Came → Type 0
+placed_in None = ⊤
+placed_in (Some came) = IsPlaced came
+
 -- a read failed in the step
-abbrev pub failed_step : Result (Option Item) NoMemory → Bool
-failed_step (Ok (Some item)) = is_read_fault item
+abbrev pub failed_step : Result (Option Came) NoMemory → Bool
 failed_step (Ok None) = false
+failed_step (Ok (Some came)) = failed_came (Ok came)
 failed_step (Err e) = false
 
 -- ---- the parts of a step

@@ -1,6 +1,7 @@
 use Rattle.std.proofs.Common.{sym, ap, ◌∙◌, ◌≡◌}
 use Rattle.spl_value.specs.declared.item.FaultKind.TheVariants as K
 use Rattle.stream_model.specs.Rows.{source_fault}
+use Rattle.row_reader.specs.Came.{item_of}
 use Rattle.row_reader.specs.Reading.{to_come}
 use Rattle.row_reader.proofs.Steps.{failed_unread, kept_stays, long_held, none_stays, piece_failed, piece_over, stays_gives, stays_stays, stopped_coming}
 use Rattle.row_reader.proofs.rows.Rows.fill.Goals as goal
@@ -23,7 +24,7 @@ returns-in_ok-finish-in-Ok-eq0-clause-coming g c =
     let kept = c.in_ok-keep_held.ensures in
     let read = c.in-Ok-eq0.ensures in
     let none : c.in-Ok-eq0.field-0 ≡ 0 = cc in
-    stays_gives (to_come c.args.self.now s) (to_come p s) (to_come c.finish.new.self now) c.in_ok-finish-in-Ok-eq0.field-0
+    stays_gives (to_come c.args.self.now s) (to_come p s) (to_come c.finish.new.self now) (item_of c.in_ok-finish-in-Ok-eq0.field-0 c.finish.new.tuple)
     (stays_stays (to_come c.args.self.now s) (to_come k s) (to_come p s) (kept_stays c.args.self.now k s c.requires.reading kept)
     (none_stays k p c.in-Ok-eq0.field-0 s none (kept.stage ∙ c.requires.reading) kept.filled read.read))
     (c.in_ok-finish-in-Ok-eq0.ensures.coming s now (piece_over s now c.in-Ok-eq0.field-0 p.piece.items none read.piece))

@@ -10,29 +10,29 @@ returns-then-length_of-eq0-clause-coming c = λ s after h.
 
 pub returns-in-Row-clause-step : goal.returns-in-Row-clause-step
 returns-in-Row-clause-step c =
-    last_given c.args.self.now c.end.new.self c.in-Row.values c.requires.reading (λ e. c.if-length_of-eq0.false (c.length_of.ensures ∙ e)) c.requires.short
-    (c.end.ensures.setting ∙ c.in_ok-values.ensures.same.setting) c.end.ensures.stage (rw c.in-Row.is at c.in_ok-values.ensures.given)
+    last_given c.args.self.now c.end.new.self c.read_last.new.tuple c.requires.reading (λ e. c.if-length_of-eq0.false (c.length_of.ensures ∙ e)) c.requires.short
+    (c.end.ensures.setting ∙ c.in_ok-read_last.ensures.same.setting) c.end.ensures.stage (rw c.in-Row.is at c.in_ok-read_last.ensures.given)
 
 pub returns-in-Row-clause-coming : goal.returns-in-Row-clause-coming
 returns-in-Row-clause-coming c = λ s after h.
-    last_coming c.args.self.now c.end.new.self c.in-Row.values s after c.requires.reading c.requires.empty (λ e. c.if-length_of-eq0.false (c.length_of.ensures ∙ e)) c.requires.short
-    c.end.ensures.stage (rw c.in-Row.is at c.in_ok-values.ensures.given) h
+    last_coming c.args.self.now c.end.new.self c.read_last.new.tuple s after c.requires.reading c.requires.empty (λ e. c.if-length_of-eq0.false (c.length_of.ensures ∙ e)) c.requires.short
+    c.end.ensures.stage (rw c.in-Row.is at c.in_ok-read_last.ensures.given) h
 
 pub returns-in-Nothing-clause-coming : goal.returns-in-Nothing-clause-coming
 returns-in-Nothing-clause-coming c = λ s after h.
     mark_coming c.args.self.now c.mark-in-Nothing.new.self c.mark-in-Nothing.result Nothing s after c.requires.reading c.requires.empty (λ e. c.if-length_of-eq0.false (c.length_of.ensures ∙ e)) c.requires.short
-    c.mark-in-Nothing.ensures.marked.stage c.mark-in-Nothing.ensures.item (rw c.in-Nothing.is at c.in_ok-values.ensures.given) (λ more. refl) h
+    c.mark-in-Nothing.ensures.marked.stage c.mark-in-Nothing.ensures.item (rw c.in-Nothing.is at c.in_ok-read_last.ensures.given) (λ more. refl) h
 
 pub returns-then-self-clause-coming : goal.returns-then-self-clause-coming
 returns-then-self-clause-coming c = λ s after h.
-    let same = c.in_ok-values.ensures.same in
+    let same = c.in_ok-read_last.ensures.same in
     last_bad_coming c.args.self.now c.stop.new.self c.stop.result s after c.requires.reading c.requires.empty (λ e. c.if-length_of-eq0.false (c.length_of.ensures ∙ e)) c.requires.short
-    c.stop.ensures.done.stage (c.stop.ensures.item ∙ ap (λ o. source_fault o K.BadRow c.args.self.now.line) same.setting) (rw c.in-Bad.is at c.in_ok-values.ensures.given)
+    c.stop.ensures.done.stage (c.stop.ensures.item ∙ ap (λ o. source_fault o K.BadRow c.args.self.now.line) same.setting) (rw c.in-Bad.is at c.in_ok-read_last.ensures.given)
     (sym (ap (λ o. o.strict) same.setting) ∙ c.if-self.true) h
 
 pub returns-else-self-clause-coming : goal.returns-else-self-clause-coming
 returns-else-self-clause-coming c = λ s after h.
-    let same = c.in_ok-values.ensures.same in
+    let same = c.in_ok-read_last.ensures.same in
     mark_coming c.args.self.now c.mark-else-self.new.self c.mark-else-self.result Bad s after c.requires.reading c.requires.empty (λ e. c.if-length_of-eq0.false (c.length_of.ensures ∙ e)) c.requires.short
-    c.mark-else-self.ensures.marked.stage c.mark-else-self.ensures.item (rw c.in-Bad.is at c.in_ok-values.ensures.given)
+    c.mark-else-self.ensures.marked.stage c.mark-else-self.ensures.item (rw c.in-Bad.is at c.in_ok-read_last.ensures.given)
     (bad_passes c.args.self.now (sym (ap (λ o. o.strict) same.setting) ∙ c.if-self.false)) h
