@@ -16,16 +16,39 @@ use Rattle.element_notes.specs.Endings.{poured_count, sent_on}
 
 -- ---- one packet more
 
-pub sent-more : (o k : ℕ) (p : Packet) (pushed : List Outgoing) → sent_on o (pushed ++ outgoing k p ∷ []) ≡ sent_on o pushed + cond (k == o) (length (items_in (p ∷ []))) 0
-sent-more o k p pushed =
+abbrev items_on : ℕ → List Outgoing → ℕ
+items_on o pushed = length (items_in (on_output o pushed))
+
+items-more : (o k : ℕ) (p : Packet) (pushed : List Outgoing) → items_on o (pushed ++ outgoing k p ∷ []) ≡ items_on o pushed + cond (k == o) (length (items_in (p ∷ []))) 0
+items-more o k p pushed =
     ap (λ ps. length (items_in ps)) (on_output-append o pushed (outgoing k p ∷ []))
     ∙ ap length (items_in-append (on_output o pushed) (on_output o (outgoing k p ∷ [])))
     ∙ length-append (items_in (on_output o pushed)) (items_in (on_output o (outgoing k p ∷ [])))
-    ∙ ap (λ n. sent_on o pushed + n) (go (k == o))
+    ∙ ap (λ n. items_on o pushed + n) (go (k == o))
   where
     go : (b : Bool) → length (items_in (cond b (p ∷ []) [])) ≡ cond b (length (items_in (p ∷ []))) 0
     go true = refl
     go false = refl
+
+-- another output, another packet, and an item there
+sent-other : (o k : ℕ) (p : Packet) (pushed : List Outgoing) → (k ≡ o → ⊥) → sent_on o (pushed ++ outgoing k p ∷ []) ≡ sent_on o pushed
+sent-other o k p pushed other =
+    ap (λ n. min n (2 ^ 64 - 1)) (items-more o k p pushed ∙ ap (λ b. items_on o pushed + cond {A = ℕ} b (length (items_in (p ∷ []))) 0) (ne_eqb k o other)
+    ∙ (let z : items_on o pushed + 0 ≡ items_on o pushed = omega arith in z))
+
+sent-same : (o k : ℕ) (p : Packet) (pushed : List Outgoing) → length (items_in (p ∷ [])) ≡ 0 → sent_on o (pushed ++ outgoing k p ∷ []) ≡ sent_on o pushed
+sent-same o k p pushed none =
+    ap (λ n. min n (2 ^ 64 - 1)) (items-more o k p pushed ∙ ap (λ m. items_on o pushed + cond (k == o) m 0) none ∙ go (k == o))
+  where
+    go : (b : Bool) → items_on o pushed + cond {A = ℕ} b 0 0 ≡ items_on o pushed
+    go true = omega arith
+    go false = omega arith
+
+sent-item : (o k : ℕ) (p : Packet) (pushed : List Outgoing) → k ≡ o → length (items_in (p ∷ [])) ≡ 1 → sent_on o (pushed ++ outgoing k p ∷ []) ≡ min (sent_on o pushed + 1) (2 ^ 64 - 1)
+sent-item o k p pushed same one =
+    let more : items_on o (pushed ++ outgoing k p ∷ []) ≡ items_on o pushed + 1 =
+    items-more o k p pushed ∙ ap (λ b. items_on o pushed + cond {A = ℕ} b (length (items_in (p ∷ []))) 0) (eq-eqb k o same) ∙ ap (λ j. items_on o pushed + j) one in
+    omega (arith, more)
 
 pub one_item : (p : Packet) (n : ℕ) (x : Item) → p ≡ P.Item n x → length (items_in (p ∷ [])) ≡ 1
 one_item p n x is = ap (λ q. length (items_in (q ∷ []))) is
@@ -36,48 +59,30 @@ no_item (P.Pulse n) other = refl
 no_item P.Close other = refl
 no_item P.Cut other = refl
 
-fewer : (ps : List Packet) → length (items_in ps) ≤ length ps
-fewer [] = omega arith
-fewer (P.Item n x ∷ ps) = let r : length (items_in ps) ≤ length ps = fewer ps in omega (arith, r)
-fewer (P.Pulse n ∷ ps) = let r : length (items_in ps) ≤ length ps = fewer ps in omega (arith, r)
-fewer (P.Close ∷ ps) = let r : length (items_in ps) ≤ length ps = fewer ps in omega (arith, r)
-fewer (P.Cut ∷ ps) = let r : length (items_in ps) ≤ length ps = fewer ps in omega (arith, r)
-
-pub fewer-sent : (o : ℕ) (pushed : List Outgoing) → sent_on o pushed ≤ length (on_output o pushed)
-fewer-sent o pushed = fewer (on_output o pushed)
-
--- what is noted of each output, where an item is put on one
+-- what is noted of each output
 abbrev pub Counts : List ℕ → List Outgoing → Type 0
 Counts sent pushed = (o n : ℕ) → slice_get sent o ≡ Some n → n ≡ sent_on o pushed
 
--- on an output that there isn't nothing is noted
 pub counts_same : (sent : List ℕ) (k : ℕ) (p : Packet) (pushed : List Outgoing) → Counts sent pushed → length (items_in (p ∷ [])) ≡ 0 → Counts sent (pushed ++ outgoing k p ∷ [])
-counts_same sent k p pushed is none o n got =
-    is o n got ∙ sym (sent-more o k p pushed ∙ ap (λ m. sent_on o pushed + cond (k == o) m 0) none ∙ go (k == o))
-  where
-    go : (b : Bool) → sent_on o pushed + cond {A = ℕ} b 0 0 ≡ sent_on o pushed
-    go true = omega arith
-    go false = omega arith
+counts_same sent k p pushed is none o n got = is o n got ∙ sym (sent-same o k p pushed none)
 
+-- on an output that there isn't nothing is noted
 pub counts_past : (sent : List ℕ) (k : ℕ) (p : Packet) (pushed : List Outgoing) → Counts sent pushed → ((n : ℕ) → slice_get sent k ≡ Some n → ⊥) → Counts sent (pushed ++ outgoing k p ∷ [])
-counts_past sent k p pushed is past o n got =
-    is o n got
-    ∙ sym (sent-more o k p pushed ∙ ap (λ b. sent_on o pushed + cond {A = ℕ} b (length (items_in (p ∷ []))) 0) (ne_eqb k o (λ e. past n (ap (slice_get sent) e ∙ got)))
-    ∙ (let z : sent_on o pushed + 0 ≡ sent_on o pushed = omega arith in z))
+counts_past sent k p pushed is past o n got = is o n got ∙ sym (sent-other o k p pushed (λ e. past n (ap (slice_get sent) e ∙ got)))
 
-pub counts_more : (sent : List ℕ) (k m : ℕ) (p : Packet) (pushed : List Outgoing) → Counts sent pushed → slice_get sent k ≡ Some m → k < length sent → length (items_in (p ∷ [])) ≡ 1 → Counts (set sent k (m + 1)) (pushed ++ outgoing k p ∷ [])
+pub counts_more : (sent : List ℕ) (k m : ℕ) (p : Packet) (pushed : List Outgoing) → Counts sent pushed → slice_get sent k ≡ Some m → k < length sent → length (items_in (p ∷ [])) ≡ 1
+    → Counts (set sent k (min (m + 1) (2 ^ 64 - 1))) (pushed ++ outgoing k p ∷ [])
 counts_more sent k m p pushed is had within one o n got = go (cases_eq k o)
   where
+    more : ℕ
+    more = min (m + 1) (2 ^ 64 - 1)
+
     go : (k ≡ o) ⊎ (k ≡ o → ⊥) → n ≡ sent_on o (pushed ++ outgoing k p ∷ [])
     go (inl e) =
-        let here : Some (m + 1) ≡ Some n = sym (set_here sent k (m + 1) within) ∙ ap (slice_get (set sent k (m + 1))) e ∙ got in
-        let is_n : n ≡ m + 1 = cc in
-        is_n ∙ ap (λ j. j + 1) (is k m had ∙ ap (λ j. sent_on j pushed) e)
-        ∙ sym (sent-more o k p pushed ∙ ap (λ b. sent_on o pushed + cond {A = ℕ} b (length (items_in (p ∷ []))) 0) (eq-eqb k o e) ∙ ap (λ j. sent_on o pushed + j) one)
-    go (inr other) =
-        is o n (sym (set_elsewhere sent k o (m + 1) other) ∙ got)
-        ∙ sym (sent-more o k p pushed ∙ ap (λ b. sent_on o pushed + cond {A = ℕ} b (length (items_in (p ∷ []))) 0) (ne_eqb k o other)
-        ∙ (let z : sent_on o pushed + 0 ≡ sent_on o pushed = omega arith in z))
+        let here : Some more ≡ Some n = sym (set_here sent k more within) ∙ ap (slice_get (set sent k more)) e ∙ got in
+        let is_n : n ≡ more = cc in
+        is_n ∙ ap (λ j. min (j + 1) (2 ^ 64 - 1)) (is k m had ∙ ap (λ j. sent_on j pushed) e) ∙ sym (sent-item o k p pushed e one)
+    go (inr other) = is o n (sym (set_elsewhere sent k o more other) ∙ got) ∙ sym (sent-other o k p pushed other)
 
 -- one that is given back
 pub counts_back : (sent : List ℕ) (k m : ℕ) (p : Packet) (pushed : List Outgoing) → Counts sent (pushed ++ outgoing k p ∷ []) → m ≡ sent_on k pushed → k < length sent → Counts (set sent k m) pushed
@@ -88,15 +93,10 @@ counts_back sent k m p pushed is had within o n got = go (cases_eq k o)
         let here : Some m ≡ Some n = sym (set_here sent k m within) ∙ ap (slice_get (set sent k m)) e ∙ got in
         let is_n : n ≡ m = cc in
         is_n ∙ had ∙ ap (λ j. sent_on j pushed) e
-    go (inr other) =
-        is o n (sym (set_elsewhere sent k o m other) ∙ got)
-        ∙ sent-more o k p pushed ∙ ap (λ b. sent_on o pushed + cond {A = ℕ} b (length (items_in (p ∷ []))) 0) (ne_eqb k o other)
-        ∙ (let z : sent_on o pushed + 0 ≡ sent_on o pushed = omega arith in z)
+    go (inr other) = is o n (sym (set_elsewhere sent k o m other) ∙ got) ∙ sent-other o k p pushed other
 
 pub counts_kept : (sent : List ℕ) (k : ℕ) (p : Packet) (pushed : List Outgoing) → Counts sent (pushed ++ outgoing k p ∷ []) → ((n : ℕ) → slice_get sent k ≡ Some n → ⊥) → Counts sent pushed
-counts_kept sent k p pushed is past o n got =
-    is o n got ∙ sent-more o k p pushed ∙ ap (λ b. sent_on o pushed + cond {A = ℕ} b (length (items_in (p ∷ []))) 0) (ne_eqb k o (λ e. past n (ap (slice_get sent) e ∙ got)))
-    ∙ (let z : sent_on o pushed + 0 ≡ sent_on o pushed = omega arith in z)
+counts_kept sent k p pushed is past o n got = is o n got ∙ sent-other o k p pushed (λ e. past n (ap (slice_get sent) e ∙ got))
 
 -- ---- all of them
 

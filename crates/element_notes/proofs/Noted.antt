@@ -17,7 +17,7 @@ use Rattle.element_notes.specs.declared.ending.Ending.{Ending}
 use Rattle.element_notes.specs.declared.notes.Notes.{Notes}
 use Rattle.element_notes.specs.Endings.{IsEnding, arrivals_of, ends_as, how_ended, how_passed, is_recorded, sent_on}
 use Rattle.element_notes.specs.Noting.{HasNoted, with_how}
-use Rattle.element_notes.proofs.Counting.{Counts, counts_all, counts_back, counts_kept, counts_more, counts_none, counts_past, counts_same, fewer-sent, poured-more}
+use Rattle.element_notes.proofs.Counting.{Counts, counts_all, counts_back, counts_kept, counts_more, counts_none, counts_past, counts_same, poured-more}
 use Rattle.element_notes.proofs.UnreadPorts.{ends_stand}
 
 -- what is put changes the counts alone
@@ -38,9 +38,9 @@ counted part notes sent kept pushed after poured has count is = record {
 
 pub put_item : (notes : Notes) (o m : ℕ) (p : Packet) → length (items_in (p ∷ [])) ≡ 1 → slice_get notes.sent o ≡ Some m
     → (part : Part) (kept : List Receipt) (pushed : List Outgoing) (poured : List (List Value)) → HasNoted part notes kept pushed poured
-    → HasNoted part (with_sent notes (set notes.sent o (m + 1))) kept (pushed ++ outgoing o p ∷ []) poured
+    → HasNoted part (with_sent notes (set notes.sent o (min (m + 1) (2 ^ 64 - 1)))) kept (pushed ++ outgoing o p ∷ []) poured
 put_item notes o m p one had part kept pushed poured has =
-    counted part notes (set notes.sent o (m + 1)) kept pushed (pushed ++ outgoing o p ∷ []) poured has (length-set notes.sent o (m + 1))
+    counted part notes (set notes.sent o (min (m + 1) (2 ^ 64 - 1))) kept pushed (pushed ++ outgoing o p ∷ []) poured has (length-set notes.sent o (min (m + 1) (2 ^ 64 - 1)))
     (counts_more notes.sent o m p pushed has.sent had (slice_get_within notes.sent o m had) one)
 
 pub put_other : (notes : Notes) (o : ℕ) (p : Packet) → length (items_in (p ∷ [])) ≡ 0
@@ -74,17 +74,6 @@ pub none_sent : (notes : Notes) (o m : ℕ) → None ≡ slice_get notes.sent o 
 none_sent notes o m none part kept pushed poured has within =
     let l : o < length notes.sent = (let count = has.sent_count in omega (arith, within, count)) in
     let clash = none ∙ slice_get-get_or notes.sent o 0 l in cc
-
--- few enough were put
-pub room_for_one : (notes : Notes) (o m : ℕ) → slice_get notes.sent o ≡ Some m
-    → (part : Part) (kept : List Receipt) (pushed : List Outgoing) (poured : List (List Value)) → HasNoted part notes kept pushed poured
-    → (o < outputs part → length (on_output o pushed) ≤ 2 ^ 61) → m ≤ 2 ^ 61
-room_for_one notes o m had part kept pushed poured has few =
-    let within : o < outputs part = (let l = slice_get_within notes.sent o m had in let count = has.sent_count in omega (arith, l, count)) in
-    let all = few within in
-    let fewer = fewer-sent o pushed in
-    let is : m ≡ sent_on o pushed = has.sent o m had in
-    omega (arith, all, fewer, is)
 
 -- a packet is given back
 pub given_back : (notes : Notes) (o m : ℕ) → o < length notes.sent

@@ -96,15 +96,15 @@ ends_of part receipts = ends_as part (how_ended part receipts)
 
 -- ---- counts
 
--- how many items were put on an output
+-- how many items were put on an output; counts stand still at their greatest number
 abbrev pub sent_on : ℕ → List Outgoing → ℕ
-sent_on o pushed = length (items_in (on_output o pushed))
+sent_on o pushed = min (length (items_in (on_output o pushed))) (2 ^ 64 - 1)
 
 -- on each of them
 abbrev pub sent_of : Part → List Outgoing → List ℕ
 sent_of part pushed = map (λ o. sent_on o pushed) (numbers_from 0 (outputs part))
 
--- how many tuples were poured; the count stands still at its greatest number
+-- how many tuples were poured
 abbrev pub poured_count : List (List Value) → ℕ
 poured_count poured = min (length poured) (2 ^ 64 - 1)
 

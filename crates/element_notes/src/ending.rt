@@ -22,9 +22,9 @@ pub struct Ending {
     /// The inputs of the events of a chain that reads several connections, in their order. Empty for every other element.
     pub arrivals: Inputs,
     pub ends: Ends,
-    /// How many items were put on each output.
+    /// How many items were put on each output. Each count stands still at its greatest number.
     pub sent: Numbers,
-    /// How many tuples were handed out for its sink. The count stands still at its greatest number.
+    /// How many tuples were handed out for its sink, likewise.
     pub tuples: u64,
     /// Whether it was cut.
     pub cut: bool,

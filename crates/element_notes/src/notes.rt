@@ -3,7 +3,7 @@ ghost use Rattle.std.specs.Prelude.{◌≡◌, ◌<◌, ◌≤◌, ◌^◌, ◌+
 ghost use Rattle.spl_value.specs.declared.packet.Packet.{Packet as PacketSpec};
 ghost use Rattle.spl_value.specs.declared.value.Value.{Value};
 ghost use Rattle.stream_model.specs.declared.outgoing.Outgoing.{Outgoing};
-ghost use Rattle.stream_model.specs.Sending.{on_output, outgoing};
+ghost use Rattle.stream_model.specs.Sending.{outgoing};
 ghost use Rattle.network_model.specs.Networks.{Part, outputs as outputs_of};
 ghost use Rattle.network_model.specs.Receipts.{Receipt};
 ghost use Rattle.operator_chains.specs.declared.how.How.TheVariants as H;
@@ -122,8 +122,6 @@ impl Notes {
     /// Notes that a packet is put on an output. How many items were put there before.
     #[inline(always)]
     pub fn put(&mut self, output: u32, packet: &Packet) -> u64
-        requires few { (part : Part) × (kept : List Receipt) × (pushed : List Outgoing) × (poured : List (List Value))
-            × HasNoted part self.old kept pushed poured × (output < outputs_of part → length (on_output output pushed) ≤ 2 ^ 61) }
         ensures puts { (part : Part) (kept : List Receipt) (pushed : List Outgoing) (poured : List (List Value))
             → HasNoted part self.old kept pushed poured
             → HasNoted part self.new kept (pushed ++ outgoing output packet.now ∷ []) poured }
@@ -135,7 +133,7 @@ impl Notes {
         };
         let before = *before;
         if let Packet::Item { .. } = packet {
-            self.sent.set(output as usize, before + 1);
+            self.sent.set(output as usize, before.saturating_add(1));
         }
         before
     }

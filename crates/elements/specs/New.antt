@@ -87,4 +87,3 @@ pub record IsNew {R : Type 0} (spec : R → Operator) (stands : R → List Event
 pub record HasNumbers {R : Type 0} (part : Part) (made : ElementPart R) : Type 0 where
   pub ids : made.ids ≡ numbers_of part
   pub ports : (op : Operator) → last_operator part ≡ Some op → length made.fans ≡ length op.outs
-  pub few : length made.fans < 2 ^ 32

@@ -1,5 +1,5 @@
 -- For which state an element stands.
-use Rattle.std.specs.Prelude.{◌≡◌, ◌<◌, ◌≤◌, ◌^◌, ℕ, ◌&&◌, ◌||◌, not, true, false, List, [], ◌∷◌, ◌++◌, length, slice_get, Some}
+use Rattle.std.specs.Prelude.{◌≡◌, ◌<◌, ◌^◌, ℕ, ◌&&◌, ◌||◌, not, true, false, List, [], ◌∷◌, ◌++◌, length, slice_get, Some}
 use Rattle.spl_value.specs.declared.item.Item.{Item}
 use Rattle.spl_value.specs.declared.packet.Packet.{Packet}
 use Rattle.spl_value.specs.declared.value.Value.{Value}
@@ -86,10 +86,6 @@ pub record ComesNext (schema : List (Named SplType)) (part : Part) (a : At) (inp
   pub idle : a.outbox ≡ []
   pub wanted : (not (has_last (popped input (all_taken a))) && (a.cut || wants_at part a input)) ≡ true
   pub proper : IsProper schema (popped input (all_taken a) ++ packet ∷ [])
-
--- a packet may be put: not too many were put on any output
-abbrev pub MayPut : Part → At → Type 0
-MayPut part a = (o : ℕ) → o < outputs part → length (on_output o a.pushed) ≤ 2 ^ 61
 
 -- what it does next
 abbrev pub IsNext : Part → At → Next → Type 0

@@ -14,7 +14,7 @@ ghost use Rattle.network_model.specs.States.{At, all_taken, cut_off, drops, puts
 ghost use Rattle.element_notes.specs.Endings.{arrivals_of, ends_of, poured_count, sent_of};
 ghost use Rattle.elements.specs.declared.input.Input.{Input as InputSpec};
 ghost use Rattle.elements.specs.Inputs.{follows};
-ghost use Rattle.elements.specs.Standing.{ComesNext, IsAt, IsNext, IsSpent, MayPut, MayRead, MayTake, Poured, WasPut, schemas_of};
+ghost use Rattle.elements.specs.Standing.{ComesNext, IsAt, IsNext, IsSpent, MayRead, MayTake, Poured, WasPut, schemas_of};
 
 use crate::element::Element;
 use crate::input::{all_ended, note_taken};
@@ -120,7 +120,7 @@ impl<R: React> Element<R> {
     /// Takes the packet out that is to be put next, with the number of its output.
     #[inline(always)]
     pub fn put(&mut self) -> Option<(u32, Packet)>
-        requires may { (part : Part) × (a : At) × (poured : List (List Value)) × IsAt R.spec R.stands part self.old a poured × MayPut part a }
+        requires may { (part : Part) × (a : At) × (poured : List (List Value)) × IsAt R.spec R.stands part self.old a poured }
         ensures puts { (part : Part) (a : At) (poured : List (List Value)) → IsAt R.spec R.stands part self.old a poured → MatchOption result
             ((a.outbox ≡ []) × IsAt R.spec R.stands part self.new a poured)
             (λ p. WasPut part self.new a (outgoing p.0 p.1) × IsAt R.spec R.stands part self.new (puts a (outgoing p.0 p.1)) poured) }
@@ -144,7 +144,7 @@ impl<R: React> Element<R> {
     #[cold]
     fn put_cut(&mut self) -> Option<(u32, Packet)>
         requires cut { self.old.cut ≡ true }
-        requires may { (part : Part) × (a : At) × (poured : List (List Value)) × IsAt R.spec R.stands part self.old a poured × MayPut part a }
+        requires may { (part : Part) × (a : At) × (poured : List (List Value)) × IsAt R.spec R.stands part self.old a poured }
         ensures puts { (part : Part) (a : At) (poured : List (List Value)) → IsAt R.spec R.stands part self.old a poured → MatchOption result
             ((a.outbox ≡ []) × IsAt R.spec R.stands part self.new a poured)
             (λ p. WasPut part self.new a (outgoing p.0 p.1) × IsAt R.spec R.stands part self.new (puts a (outgoing p.0 p.1)) poured) }

@@ -95,6 +95,7 @@ impl<R: React> Element<R> {
     /// An element of this part, which has taken and put nothing.
     pub fn new(alloc: Global, part: ElementPart<R>) -> Result<Element<R>, NoMemory>
         requires new { (p : Part) × IsNew R.spec R.stands p part × HasNumbers p part }
+        requires ports { length part.fans < 2 ^ 32 }
         ensures begins { IfOk result (λ element. (p : Part) → IsNew R.spec R.stands p part → HasNumbers p part → IsAt R.spec R.stands p element new_element []) }
         ensures schemas { IfOk result (λ element. schemas_of element ≡ part.ins) }
     {

@@ -1,7 +1,7 @@
-use Rattle.std.proofs.Common.{arith, subst, sym, ◌++◌, ◌∷◌, []}
+use Rattle.std.proofs.Common.{subst, ◌∙◌, ap, set, sym, ◌++◌, ◌∷◌, []}
 use Rattle.stream_model.specs.Sending.{outgoing}
 use Rattle.element_notes.specs.Noting.{HasNoted}
-use Rattle.element_notes.proofs.Noted.{none_sent, put_item, put_other, put_past, room_for_one, was_sent, with_sent}
+use Rattle.element_notes.proofs.Noted.{none_sent, put_item, put_other, put_past, was_sent, with_sent}
 use Rattle.element_notes.proofs.Counting.{no_item, one_item}
 use Rattle.element_notes.proofs.notes.Notes.put.Goals as goal
 
@@ -11,15 +11,9 @@ returns-in_default c = record {
   before = none_sent c.args.self.now c.args.output 0 c.in_default.ensures.value;
 }
 
-pub overflow_add-before : goal.overflow_add-before
-overflow_add-before c =
-    let few = c.requires.few in
-    let small = room_for_one c.args.self.now c.args.output c.in-Some.before.now (sym c.in-Some.ensures.value) few.0 few.1 few.2 few.3 few.4 few.5 in
-    omega (arith, small)
-
 pub returns-in-Item : goal.returns-in-Item
 returns-in-Item c = record {
-  puts = λ part kept pushed poured has. subst (λ ns. HasNoted part (with_sent c.args.self.now ns) kept (pushed ++ outgoing c.args.output c.args.packet.now ∷ []) poured) (sym c.set.ensures)
+  puts = λ part kept pushed poured has. subst (λ ns. HasNoted part (with_sent c.args.self.now ns) kept (pushed ++ outgoing c.args.output c.args.packet.now ∷ []) poured) (sym (c.set.ensures ∙ ap (set c.args.self.now.sent c.args.output) c.saturating_add.ensures))
       (put_item c.args.self.now c.args.output c.in-Some.before.now c.args.packet.now (one_item c.args.packet.now _ _ c.in-Item.is) (sym c.in-Some.ensures.value) part kept pushed poured has);
   before = λ part kept pushed poured has within. was_sent c.args.self.now c.args.output c.in-Some.before.now (sym c.in-Some.ensures.value) part kept pushed poured has;
 }
