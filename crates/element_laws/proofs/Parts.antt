@@ -111,34 +111,20 @@ module _ {R : Type 0} (spec : R → Operator) (stands : R → List Event → Typ
       let fans : made.fans ≡ connections_of_outs c e.ids = p.fans ∙ ap (λ r. fans_by c r (channels_of plan width e.region) e.ids) t.0 in record {
         ids = p.ids ∙ t.2;
         ports = ports-count source ops e.ids made.fans fans t.2 f.stands f.path;
-        few = few-fans source ops e.ids made.fans fans t.2 f.stands f.path;
       }
   has-numbers (FromLinks op ops outs) e made f t p =
       let fans : made.fans ≡ connections_of_outs c e.ids = p.fans ∙ ap (λ r. fans_by c r (channels_of plan width e.region) e.ids) t.0 in record {
         ids = p.ids ∙ t.2;
         ports = ports-count op ops e.ids made.fans fans t.2 f.stands f.path;
-        few = few-fans op ops e.ids made.fans fans t.2 f.stands f.path;
       }
-  has-numbers (Splitter region) e made f t p =
-      let o = t.1 in
-      let wide = channels c k plan width is region e o in
-      let fans : made.fans ≡ replicate region.width 1 = p.fans ∙ ap (λ r. fans_by c r (channels_of plan width e.region) e.ids) t.0 ∙ ap (λ n. replicate n 1) wide in
-      let most = few-channels region e o in
-      let count : length made.fans ≡ region.width = ap length fans ∙ length-replicate region.width 1 in
-      let power : 2 ^ 32 ≡ 4294967296 = refl in record {
-        ids = p.ids ∙ region-ids c k plan width is region e f o ∙ ap numbers (sym f.are);
-        ports = λ last none. absurd (let clash : None ≡ Some last = none in cc);
-        few = omega (arith, count, most, power);
-      }
-  has-numbers (Replica region channel) e made f t p =
-      let own = f.0 in
-      let fans : made.fans ≡ 1 ∷ [] = p.fans ∙ ap (λ r. fans_by c r (channels_of plan width e.region) e.ids) t.0 in
-      let count : length made.fans ≡ 1 = ap length fans in
-      let power : 2 ^ 32 ≡ 4294967296 = refl in record {
-        ids = p.ids ∙ region-ids c k plan width is region e own t.1 ∙ ap numbers (sym own.are);
-        ports = λ last none. absurd (let clash : None ≡ Some last = none in cc);
-        few = omega (arith, count, power);
-      }
+  has-numbers (Splitter region) e made f t p = record {
+    ids = p.ids ∙ region-ids c k plan width is region e f t.1 ∙ ap numbers (sym f.are);
+    ports = λ last none. absurd (let clash : None ≡ Some last = none in cc);
+  }
+  has-numbers (Replica region channel) e made f t p = record {
+    ids = p.ids ∙ region-ids c k plan width is region e f.0 t.1 ∙ ap numbers (sym f.0.are);
+    ports = λ last none. absurd (let clash : None ≡ Some last = none in cc);
+  }
   has-numbers (Merger region outs) e made f t p =
       let o = t.1 in
       let own = f.0 in
@@ -146,8 +132,28 @@ module _ {R : Type 0} (spec : R → Operator) (stands : R → List Event → Typ
       let fans : made.fans ≡ connections_of_outs c e.ids = p.fans ∙ ap (λ r. fans_by c r (channels_of plan width e.region) e.ids) t.0 in record {
         ids = p.ids ∙ ids ∙ ap numbers (sym own.are);
         ports = λ last is-last. ports-count own.op own.ops e.ids made.fans fans ids own.stands own.path last (sym (ap last_in own.are) ∙ is-last);
-        few = few-fans own.op own.ops e.ids made.fans fans ids own.stands own.path;
       }
+
+  few-ports : (part : Part) (e : ShapeElement) (made : ElementPart R) → PartFits (graph_of c) part → Tells c plan width part e → HasPorts made (ports_of c plan width e) → length made.fans < 2 ^ 32
+  few-ports (FromSource source ops outs) e made f t p =
+      few-fans source ops e.ids made.fans (p.fans ∙ ap (λ r. fans_by c r (channels_of plan width e.region) e.ids) t.0) t.2 f.stands f.path
+  few-ports (FromLinks op ops outs) e made f t p =
+      few-fans op ops e.ids made.fans (p.fans ∙ ap (λ r. fans_by c r (channels_of plan width e.region) e.ids) t.0) t.2 f.stands f.path
+  few-ports (Splitter region) e made f t p =
+      let o = t.1 in
+      let wide = channels c k plan width is region e o in
+      let fans : made.fans ≡ replicate region.width 1 = p.fans ∙ ap (λ r. fans_by c r (channels_of plan width e.region) e.ids) t.0 ∙ ap (λ n. replicate n 1) wide in
+      let most = few-channels region e o in
+      let count : length made.fans ≡ region.width = ap length fans ∙ length-replicate region.width 1 in
+      let power : 2 ^ 32 ≡ 4294967296 = refl in
+      omega (arith, count, most, power)
+  few-ports (Replica region channel) e made f t p =
+      let fans : made.fans ≡ 1 ∷ [] = p.fans ∙ ap (λ r. fans_by c r (channels_of plan width e.region) e.ids) t.0 in
+      let count : length made.fans ≡ 1 = ap length fans in
+      let power : 2 ^ 32 ≡ 4294967296 = refl in
+      omega (arith, count, power)
+  few-ports (Merger region outs) e made f t p =
+      few-fans f.0.op f.0.ops e.ids made.fans (p.fans ∙ ap (λ r. fans_by c r (channels_of plan width e.region) e.ids) t.0) (region-ids c k plan width is region e f.0 t.1) f.0.stands f.0.path
 
   made-fits : (part : Part) (e : ShapeElement) (made : ElementPart R) → PartFits (graph_of c) part → Tells c plan width part e → HasPorts made (ports_of c plan width e) → IsNewWork spec stands part made.work
       → IsNew spec stands part made × Suits part made.ins
@@ -245,4 +251,9 @@ fit_law spec stands c plan width n capacity made k is low m =
     let fit = (fused_wired c plan width capacity k is).parts n (omega (arith, within, many)) in
     let tells = told.each n m.element m.at in
     let new = made-fits spec stands c k plan width is low part m.element made fit tells m.ports m.work in
-    (new.0, has-numbers spec stands c k plan width is low part m.element made fit tells m.ports, new.1)
+    (
+      new.0,
+      has-numbers spec stands c k plan width is low part m.element made fit tells m.ports,
+      few-ports spec stands c k plan width is low part m.element made fit tells m.ports,
+      new.1,
+    )

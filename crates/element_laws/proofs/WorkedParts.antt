@@ -1,5 +1,5 @@
 -- The worked elements are those of a program.
-use Rattle.std.proofs.Common.{ℕ, zero, suc, ◌<◌, ◌≤◌, ◌==◌, ◌&&◌, true, List, [], ◌∷◌, ◌≡◌, inl, inr, refl, ap, ◌∙◌, subst, arith, map, Some, slice_get}
+use Rattle.std.proofs.Common.{ℕ, zero, suc, ◌<◌, ◌≤◌, ◌==◌, ◌&&◌, true, List, [], ◌∷◌, ◌≡◌, inl, inr, refl, ap, ◌∙◌, subst, arith, map, Some, slice_get, ◌^◌, length}
 use Rattle.std.specs.Prelude.{pos}
 use Rattle.std.proofs.lemmas.Bool.{ne_eqb, cond-false}
 use Rattle.spl_value.specs.declared.packet.Packet.{Packet}
@@ -46,7 +46,7 @@ replica_made operators at = record { element = _; at = refl; ports = record { id
 pub merger_made : IsMade itself IsUnused chain filters 2 4 merger_part
 merger_made = record { element = _; at = refl; ports = record { ids = refl; ins = refl; fans = refl; source = refl }; work = (refl, refl) }
 
-pub splitter_fits : IsNew itself IsUnused (part_at 1) splitter_part × HasNumbers (part_at 1) splitter_part × Suits (part_at 1) (numbers ∷ [])
+pub splitter_fits : IsNew itself IsUnused (part_at 1) splitter_part × HasNumbers (part_at 1) splitter_part × (length splitter_part.fans < 2 ^ 32) × Suits (part_at 1) (numbers ∷ [])
 splitter_fits = fit_law itself IsUnused chain filters 2 1 18 splitter_part chain_keeps filters_plan (let le : 2 ≤ 16 = omega arith in le) splitter_made
 
 pub row_kept : KeepsRule (part_at 1) one_row

@@ -1,5 +1,5 @@
 -- What a checked graph, its plan and a width make an element of.
-use Rattle.std.specs.Prelude.{ℕ, ◌≡◌, ◌≤◌, List, ◌∷◌, map, Some, slice_get}
+use Rattle.std.specs.Prelude.{ℕ, ◌≡◌, ◌<◌, ◌≤◌, ◌^◌, List, ◌∷◌, length, map, Some, slice_get}
 use Rattle.spl_value.specs.Numbered.{ByTurns, ByNumbers, ByPulses}
 use Rattle.channel_heads.specs.Held.{new_held}
 use Rattle.hash_splitter.specs.Splitting.{new_splitting}
@@ -58,5 +58,5 @@ abbrev pub FitLaw : {R : Type 0} (spec : R → Operator) (stands : R → List Ev
 FitLaw {R = R} spec stands = (c : CheckedGraph) (plan : List Region) (width n capacity : ℕ) (made : ElementPart R) → Keeps c
     → IsPlan (graph_of c) plan → width ≤ 16 → IsMade spec stands c plan width n made
     → IsNew spec stands ((fused_net (graph_of c) plan width capacity).part n) made
-    × HasNumbers ((fused_net (graph_of c) plan width capacity).part n) made
+    × HasNumbers ((fused_net (graph_of c) plan width capacity).part n) made × (length made.fans < 2 ^ 32)
     × Suits ((fused_net (graph_of c) plan width capacity).part n) made.ins

@@ -1,5 +1,5 @@
 //! Worked elements.
-ghost use Rattle.std.specs.Prelude.{◌∷◌, [], map};
+ghost use Rattle.std.specs.Prelude.{◌<◌, ◌^◌, ◌∷◌, [], length, map};
 ghost use Rattle.language_model.specs.Keeping.{Keeps};
 ghost use Rattle.stream_model.specs.CheckedMeaning.{graph_of, schema_at};
 ghost use Rattle.stream_model.specs.Operators.{Operator};
@@ -25,7 +25,7 @@ pub fn parts_on_literals()
         → IsMade itself IsUnused chain filters 2 2 (replica_part operators) }
     ensures merger { IsMade itself IsUnused chain filters 2 4 merger_part }
     ensures fits { IsNew itself IsUnused (part_at 1) splitter_part × HasNumbers (part_at 1) splitter_part
-        × Suits (part_at 1) (numbers ∷ []) }
+        × (length splitter_part.fans < 2 ^ 32) × Suits (part_at 1) (numbers ∷ []) }
     ensures keeps { KeepsRule (part_at 1) one_row }
     ensures takes { TookProper (part_at 1) (numbers ∷ []) one_row.kept }
     ensures puts { IsProper numbers (on_output 0 one_row.pushed) }
