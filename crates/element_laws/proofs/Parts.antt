@@ -250,8 +250,7 @@ fit_law spec stands c plan width n capacity made k is low m =
     let part = (fused_net (graph_of c) plan width capacity).part n in
     let fit = (fused_wired c plan width capacity k is).parts n (omega (arith, within, many)) in
     let tells = told.each n m.element m.at in
-    let new = made-fits spec stands c k plan width is low part m.element made fit tells m.ports m.work in
-    (
+    let new = made-fits spec stands c k plan width is low part m.element made fit tells m.ports m.work in (
       new.0,
       has-numbers spec stands c k plan width is low part m.element made fit tells m.ports,
       few-ports spec stands c k plan width is low part m.element made fit tells m.ports,

@@ -41,6 +41,6 @@ returns g c =
           c.collect.ensures.done parts
           (subst (Each E) (sym c.add.ensures.items)
           (each_append E all.items left.items (λ i d low. absurd (omega arith))
-            (c.drive-left.ensures.done parts ran.1)))
+          (c.drive-left.ensures.done parts ran.1)))
           ran.0;
     }
